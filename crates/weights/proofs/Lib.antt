@@ -1,0 +1,2 @@
+pub mod SumOut
+pub mod ByPatterns

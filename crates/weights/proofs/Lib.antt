@@ -1,2 +1,3 @@
 pub mod SumOut
 pub mod ByPatterns
+pub mod Named

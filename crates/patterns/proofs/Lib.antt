@@ -1,2 +1,3 @@
 pub mod Sums
 pub mod Bridge
+pub mod Anys

@@ -1,2 +1,3 @@
+pub mod Anys
 pub mod Patterns
 pub mod Seats

@@ -8,6 +8,7 @@ use native.Mathlib.Nat as NatL
 use native.Mathlib.Nat.{mul-zero, zero-mul, one-mul}
 use lib.Dec.{eqb}
 use lib.ListN.{length, getD}
+use Rattle.patterns.specs.Anys.{isMember}
 use Rattle.patterns.specs.Patterns.{Pattern, within, number, flags, all, below}
 use Rattle.patterns.proofs.Sums.{below-same}
 use Rattle.patterns.proofs.Bridge.{bridgeℕ}
@@ -26,7 +27,7 @@ length-kept (true ∷ N) (l ∷ ls) = ap suc (length-kept N ls)
 length-kept (false ∷ N) (l ∷ ls) = ap suc (length-kept N ls)
 
 -- what holds of each seat, and of a failed one, holds of each that is kept
-kept-all : (Q : Exposure → Type 0) → Q lost → (N : Pattern) (ls : List Exposure) → ((i : ℕ) → i < length ls → Q (seatAt ls i)) → (i : ℕ) → i < length ls → Q (seatAt (kept N ls) i)
+pub kept-all : (Q : Exposure → Type 0) → Q lost → (N : Pattern) (ls : List Exposure) → ((i : ℕ) → i < length ls → Q (seatAt ls i)) → (i : ℕ) → i < length ls → Q (seatAt (kept N ls) i)
 unfolding kept
 kept-all Q q N [] h i k = absurd (omega arith)
 kept-all Q q [] (l ∷ ls) h zero k = q
@@ -84,3 +85,27 @@ weight-kept ls N f =
 
 pub full-kept : (ls : List Exposure) (N : ℕ) → 20 * D (kept (flags (length ls) N) ls) ≡ fullWeight ls N
 full-kept ls N = ap (λ (d : ℕ). 20 * d) (D-kept (flags (length ls) N) ls)
+
+-- ---- the seat i of what is kept
+first-seat : (b : Bool) (M : Pattern) (l : Exposure) (ls : List Exposure) (d : Exposure) → getD (kept (b ∷ M) (l ∷ ls)) 0 d ≡ cond b l lost
+unfolding kept
+first-seat true M l ls d = refl
+first-seat false M l ls d = refl
+
+next-seat : (b : Bool) (M : Pattern) (l : Exposure) (ls : List Exposure) (i : ℕ) (d : Exposure) → getD (kept (b ∷ M) (l ∷ ls)) (suc i) d ≡ getD (kept M ls) i d
+unfolding kept
+next-seat true M l ls i d = refl
+next-seat false M l ls i d = refl
+
+halved : (N i : ℕ) → N / 2 / 2 ^ i ≡ N / 2 ^ suc i
+halved N i = NatL.div-div-eq-div-mul N 2 (2 ^ i) ∙ ap (λ (k : ℕ). N / k) (NatL.mul-comm 2 (2 ^ i) ∙ sym (NatL.pow-suc 2 i))
+
+pub kept-at : (ls : List Exposure) (N i : ℕ) (d : Exposure) → i < length ls → getD (kept (flags (length ls) N) ls) i d ≡ cond (isMember N i) (getD ls i d) lost
+unfolding flags
+kept-at [] N i d h = absurd (omega arith)
+kept-at (l ∷ ls) N zero d h = first-seat (eqb (N % 2) 1) (flags (length ls) (N / 2)) l ls d ∙ ap (λ (k : ℕ). cond (eqb (k % 2) 1) l lost) (sym (NatL.div-one N))
+kept-at (l ∷ ls) N (suc i) d h =
+    let k : i < length ls = omega arith in
+    next-seat (eqb (N % 2) 1) (flags (length ls) (N / 2)) l ls i d
+    ∙ kept-at ls (N / 2) i d k
+    ∙ ap (λ (m : ℕ). cond (eqb (m % 2) 1) (getD ls i d) lost) (halved N i)

@@ -1,0 +1,2 @@
+// A benefit: what is paid, and which part of it in each pattern of the lives alive.
+pub mod benefit;

@@ -1,0 +1,3 @@
+// The case: seats that are first enrolling, then in force.
+pub mod enrolling;
+pub mod inforce;

@@ -1,0 +1,3 @@
+pub mod Column
+pub mod Projection
+pub mod Tables

@@ -1,0 +1,6 @@
+// Lives: what a life means, the bases that tables and rules give, and the adjustments over any life.
+pub mod aged;
+pub mod aggregate;
+pub mod demoivre;
+pub mod life;
+pub mod projected;

@@ -1,0 +1,3 @@
+-- The lemmas about seats.
+pub mod Anys
+pub mod Products

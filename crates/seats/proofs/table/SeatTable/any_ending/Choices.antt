@@ -1,0 +1,7 @@
+use mathlib.Core.Path.{_≡_}
+use lib.ListN.{drop}
+use Rattle.seats.specs.Seats.{anyOf, lives, ending}
+use Rattle.seats.proofs.table.SeatTable.any_ending.Given as given
+
+abbrev pub Inv-loop-seat : given.InvT-loop-seat
+Inv-loop-seat l = anyOf (ending (l .year)) (drop (l .seat-index) (l .self .seats)) ≡ anyOf (ending (l .year)) (l .self .seats)

@@ -1,0 +1,4 @@
+pub mod Decimals
+pub mod Discounting
+pub mod Quotients
+pub mod Summing

@@ -5,10 +5,10 @@ ghost use Rattle.std.specs.Results.{Cases};
 ghost use Rattle.cases.specs.Views.{inForceBook};
 ghost use Rattle.annuities.specs.Values.{factored, summed, valued, CutOf};
 use crate::cuts::yearly;
-use crate::discounts::at;
-use crate::discounts::next;
 use crate::discounts::HIGHEST_RATE;
 use crate::discounts::UNIT;
+use crate::discounts::at;
+use crate::discounts::next;
 use crate::valuation::Valuation;
 use benefits::benefit::Benefit;
 use cases::inforce::InForce;
@@ -18,7 +18,12 @@ use refusals::Refusal;
 const YEARS: u32 = 121;
 
 // The yearly factor of a year at a rate, in hundred-millionths.
-pub fn yearly_factor(case: &InForce, benefit: &Benefit, rate: u32, year: u32) -> Result<u64, Refusal>
+pub fn yearly_factor(
+    case: &InForce,
+    benefit: &Benefit,
+    rate: u32,
+    year: u32,
+) -> Result<u64, Refusal>
     ensures value { λ r. ⌜ r ≡ factored (inForceBook (now (case .entry))) (now (benefit .entry)) rate year ⌝ }
     ensures cut { λ r. ⌜ CutOf r (inForceBook (now (case .entry))) (now (benefit .entry)) rate year ⌝ }
 {

@@ -77,10 +77,10 @@ unfolding byPatterns
 weight-kept ls N f =
     let held = kept (flags (length ls) N) ls in
     sym (
-      below-same _+_ 0 (2 ^ length ls) _ (λ p. f p * times counted gone held (flags (length ls) p))
-      (λ p. chosen (inside ls N p) (f p) (timesOf (flags (length ls) N) counted gone ls (flags (length ls) p)) ∙ ap (λ (n : ℕ). f p * n) (product-kept counted gone refl refl ls N p))
-      ∙ bridgeℕ (length ls) (λ p P. f p * times counted gone held P)
-      ∙ ap (λ (k : ℕ). all _+_ k (λ P. f (number P) * times counted gone held P)) (sym (length-kept (flags (length ls) N) ls))
+    below-same _+_ 0 (2 ^ length ls) _ (λ p. f p * times counted gone held (flags (length ls) p))
+    (λ p. chosen (inside ls N p) (f p) (timesOf (flags (length ls) N) counted gone ls (flags (length ls) p)) ∙ ap (λ (n : ℕ). f p * n) (product-kept counted gone refl refl ls N p))
+    ∙ bridgeℕ (length ls) (λ p P. f p * times counted gone held P)
+    ∙ ap (λ (k : ℕ). all _+_ k (λ P. f (number P) * times counted gone held P)) (sym (length-kept (flags (length ls) N) ls))
     )
 
 pub full-kept : (ls : List Exposure) (N : ℕ) → 20 * D (kept (flags (length ls) N) ls) ≡ fullWeight ls N

@@ -8,8 +8,8 @@ ghost use Rattle.weights.specs.Patterns.{byPatterns};
 use crate::exposure::Exposure;
 use crate::exposures::Exposures;
 use crate::weight::Weight;
-use patterns::Shares;
 use patterns::PATTERNS;
+use patterns::Shares;
 
 // Sums out the first of the seats that are left: each sum of the other seats takes the two patterns that differ in it alone.
 fn sum_out(sums: &mut [u64], others: usize, seat: Exposure)

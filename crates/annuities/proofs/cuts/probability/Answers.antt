@@ -18,8 +18,7 @@ add-part c =
 
 pub loop-place-again : need.loop-place-again
 loop-place-again c =
-    let w = c .args .weight .now in
-    (
+    let w = c .args .weight .now in (
       ap₂ (λ (q r : ℕ). q * 10 + r * 10 / w .full) (c .loop-place .inv .0) (c .loop-place .inv .1) ∙ next-digit (w .weight) (w .full) (c .loop-place .-place) (w .some),
       ap (λ (r : ℕ). r * 10 % w .full) (c .loop-place .inv .1) ∙ next-rest (w .weight) (w .full) (c .loop-place .-place) (w .some),
     )

@@ -1,40 +1,22 @@
--- Columns of counts: zeros, and lists that make a life.
-use mathlib.Core.Path.{_≡_, refl, sym, _∙_}
+-- Columns of counts, and lists that are filled or written.
+use mathlib.Core.Path.{_≡_, refl, sym, ap, _∙_}
 use mathlib.Core.Logic.{⊎-elim, _≢_}
 use borrow.Author.Count.{below-more}
 use mathlib.Core.List.{List, [], _∷_}
 use Prim.Native.Nat.{ℕ, zero, suc, _+_, _-_, _<_, _≤_}
+use native.Mathlib.Nat.{add-zero, add-suc}
+use native.Mathlib.Numerals.{add-one}
 use native.Mathlib.Omega.{arith}
 use lib.ListN.{length, getD, set, replicate}
 use Rattle.std.proofs.shelf.Lists.{getD-past, getD-set-same, getD-set-other}
 use Rattle.std.proofs.shelf.Tests.{cases-lt}
 use Rattle.std.proofs.shelf.Counted.{length-map-counting, getD-map-counting, fill-by-all}
 use Rattle.lives.specs.Column.{column}
-use Rattle.lives.specs.Tables.{Fair}
 
 pub zeros-at : (n t : ℕ) → getD {A = ℕ} (replicate n 0) t 0 ≡ 0
 zeros-at zero t = refl
 zeros-at (suc n) zero = refl
 zeros-at (suc n) (suc t) = zeros-at n t
-
--- what was seen place by place, up to the list's end
-pub fair-from : (xs : List ℕ) → length xs ≤ 121
-    → ((k : ℕ) → k < length xs → getD xs k 0 ≤ 1000000)
-    → ((k : ℕ) → k + 1 < length xs → getD xs (k + 1) 0 ≤ getD xs k 0)
-    → Fair xs
-fair-from xs short low falls = record {
-  short = short;
-  bounded = λ t. ⊎-elim (λ (h : t < length xs). low t h) (λ (h : length xs ≤ t). omega (arith, getD-past xs t 0 h)) (cases-lt t (length xs));
-  falling = λ t. ⊎-elim (λ (h : t + 1 < length xs). falls t h) (λ (h : length xs ≤ t + 1). omega (arith, getD-past xs (t + 1) 0 h)) (cases-lt (t + 1) (length xs));
-}
-
--- a place where the next count rises
-pub rises : (xs : List ℕ) (i top : ℕ) → (i ≡ 0 → top ≡ 1000000) → ((k : ℕ) → k + 1 ≡ i → getD xs k 0 ≡ top) → top < getD xs i 0 → Fair xs → ⊥
-rises xs i top at-first before over fair =
-    ⊎-elim
-    (λ (h : i < 1). let z : i ≡ 0 = omega arith in omega (arith, at-first z, fair .bounded i))
-    (λ (h : 1 ≤ i). let e : (i - 1) + 1 ≡ i = omega arith in let f : getD xs i 0 ≤ getD xs (i - 1) 0 = rw e at (fair .falling (i - 1)) in omega (arith, before (i - 1) e, f))
-    (cases-lt i 1)
 
 pub constant-le : (n a t : ℕ) → getD (replicate n a) t 0 ≤ a
 constant-le zero a t = omega arith
@@ -55,6 +37,10 @@ write-next f xs i v within before here =
     below-more (λ k. getD (set xs i v) k 0 ≡ f k) i
     (λ k h. let ne : k ≢ i = omega arith in rw getD-set-other (before k h))
     (rw getD-set-same here)
+
+-- past that place it is as it was
+pub zeros-beyond : (xs : List ℕ) (i v : ℕ) → ((k : ℕ) → i ≤ k → getD xs k 0 ≡ 0) → (k : ℕ) → i + 1 ≤ k → getD (set xs i v) k 0 ≡ 0
+zeros-beyond xs i v beyond k h = let ne : k ≢ i = omega arith in rw getD-set-other (beyond k (omega arith))
 
 pub column-long : (f : ℕ → ℕ) → length (column f) ≡ 121
 unfolding column
@@ -78,3 +64,20 @@ column-all f ends t =
 -- and falls as they do
 pub column-falls : (f : ℕ → ℕ) → ((t : ℕ) → 121 ≤ t → f t ≡ 0) → ((t : ℕ) → f (t + 1) ≤ f t) → (t : ℕ) → getD (column f) (t + 1) 0 ≤ getD (column f) t 0
 column-falls f ends falls t = omega (arith, column-all f ends t, column-all f ends (t + 1), falls t)
+
+-- what follows f up to some place, and is 0 from there on as f is, is its column
+pub column-up-to : (f : ℕ → ℕ) (xs : List ℕ) (n : ℕ) → length xs ≡ 121 → ((k : ℕ) → k < n → getD xs k 0 ≡ f k) → ((k : ℕ) → n ≤ k → getD xs k 0 ≡ 0) → ((k : ℕ) → n ≤ k → f k ≡ 0) → xs ≡ column f
+column-up-to f xs n long at zeros ends =
+    column-from f xs long (λ k h. ⊎-elim (λ (b : k < n). at k b) (λ (b : n ≤ k). zeros k b ∙ sym (ends k b)) (cases-lt k n))
+
+-- an entry of a column that is held
+pub held : (f : ℕ → ℕ) (xs : List ℕ) (t : ℕ) → xs ≡ column f → t < 121 → getD xs t 0 ≡ f t
+held f xs t e h = ap (λ (ys : List ℕ). getD ys t 0) e ∙ column-at f t h
+
+-- counts that never rise stay at 0
+stays-ended : (f : ℕ → ℕ) (t : ℕ) → ((k : ℕ) → f (k + 1) ≤ f k) → f t ≡ 0 → (n : ℕ) → f (t + n) ≡ 0
+stays-ended f t falls e zero = rw add-zero e
+stays-ended f t falls e (suc n) = let h = falls (t + n) in let z = stays-ended f t falls e n in let s : f (t + n + 1) ≡ 0 = omega arith in rw (add-suc, ← add-one) s
+
+pub ended-from : (f : ℕ → ℕ) (t : ℕ) → ((k : ℕ) → f (k + 1) ≤ f k) → f t ≡ 0 → (k : ℕ) → t ≤ k → f k ≡ 0
+ended-from f t falls e k h = let m : t + (k - t) ≡ k = omega arith in rw m at (stays-ended f t falls e (k - t))

@@ -1,4 +1,4 @@
-// Lives: what a life means, the bases that tables and rules give, and the adjustments over any life.
+// Lives: what a life means, the bases that a table or a rule gives, and the adjustments over any life.
 pub mod aged;
 pub mod aggregate;
 pub mod demoivre;

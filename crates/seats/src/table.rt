@@ -102,12 +102,11 @@ impl SeatTable {
         requires { ⌜ Columns (now self .seats) ⌝ }
         ensures { λ r. ⌜ r ≡ anyOf lives (now (self .entry) .seats) ⌝ }
     {
+        let mut living = false;
         for seat in &self.seats {
-            if seat.lives() {
-                return true;
-            }
+            living |= seat.lives();
         }
-        false
+        living
     }
 
     // Whether any living seat's count of a year is 0.
@@ -115,12 +114,11 @@ impl SeatTable {
         requires { ⌜ Columns (now self .seats) ⌝ }
         ensures { λ r. ⌜ r ≡ anyOf (ending year) (now (self .entry) .seats) ⌝ }
     {
+        let mut ending = false;
         for seat in &self.seats {
-            if seat.ends_by(year) {
-                return true;
-            }
+            ending |= seat.ends_by(year);
         }
-        false
+        ending
     }
 
     // The counts of year 0 of the occupied seats, multiplied.
@@ -172,6 +170,7 @@ impl SeatTable {
         requires { ⌜ Seated seat ⌝ }
         ensures { λ _. ⌜ now (self .exit) .seats ≡ set (now (self .entry) .seats) seat (failed (seatAt (now (self .entry) .seats) seat .counts)) ⌝ }
     {
-        self.seats[seat].mark = Mark::Failed;
+        let record = &mut self.seats[seat];
+        record.mark = Mark::Failed;
     }
 }

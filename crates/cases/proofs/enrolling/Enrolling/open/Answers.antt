@@ -1,3 +1,4 @@
+-- What is left to show of `Enrolling::open`.
 use mathlib.Core.Path.{sym, subst}
 use Rattle.seats.specs.Seats.{first, Columns, Within}
 use Rattle.cases.proofs.Sounds.{opened-columns, opened-within}

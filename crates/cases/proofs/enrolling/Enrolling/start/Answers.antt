@@ -1,3 +1,4 @@
+-- What is left to show of `Enrolling::start`.
 use native.Mathlib.Omega.{arith}
 use Rattle.cases.proofs.Sounds.{started-within}
 use Rattle.cases.proofs.enrolling.Enrolling.start.Needs as need

@@ -1,3 +1,4 @@
+-- What is left to show of `Enrolling::withdraw`.
 use mathlib.Core.Path.{_≡_, sym, ap, subst, _∙_}
 use mathlib.Core.Logic.{⊎-elim, inl, inr}
 use native.Mathlib.Omega.{arith}

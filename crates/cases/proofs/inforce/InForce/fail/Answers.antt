@@ -1,3 +1,4 @@
+-- What is left to show of `InForce::fail`.
 use mathlib.Core.Path.{sym, subst}
 use native.Mathlib.Omega.{arith}
 use Rattle.seats.specs.Seats.{present, Columns, Within}

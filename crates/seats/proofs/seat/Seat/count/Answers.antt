@@ -1,3 +1,4 @@
+-- What is left to show of `Seat::count`.
 use borrow.Author.Needs.{needs}
 use Rattle.std.proofs.shelf.Lists.{getD-past}
 use Rattle.seats.proofs.seat.Seat.count.Needs as need

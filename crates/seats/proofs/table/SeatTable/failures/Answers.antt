@@ -1,3 +1,4 @@
+-- What is left to show of `SeatTable::failures`.
 use mathlib.Core.Path.{_≡_, ap}
 use mathlib.Core.Bool.{cond}
 use Prim.Native.Nat.{ℕ, _+_, _≤_}

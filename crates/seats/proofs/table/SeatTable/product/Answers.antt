@@ -1,3 +1,4 @@
+-- What is left to show of `SeatTable::product`.
 use mathlib.Core.Path.{_≡_, sym, ap, _∙_}
 use Prim.Native.Nat.{ℕ, _*_, _+_}
 use native.Mathlib.Nat.{mul-one}

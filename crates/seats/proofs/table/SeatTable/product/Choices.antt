@@ -1,3 +1,4 @@
+-- What the loop of `SeatTable::product` keeps.
 use Prim.Native.Nat.{_*_}
 use mathlib.Core.Path.{_≡_}
 use lib.ListN.{drop}

@@ -1,0 +1,4 @@
+pub mod Classes
+pub mod Cut
+pub mod Letters
+pub mod Look

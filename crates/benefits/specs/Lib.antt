@@ -1,1 +1,4 @@
+pub mod Carried
+pub mod Clauses
+pub mod Reads
 pub mod Shares

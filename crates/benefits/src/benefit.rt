@@ -4,6 +4,7 @@ ghost use Prim.Native.Nat.{ℕ, _<_, _≤_};
 ghost use lib.Bits.{bitAnd};
 ghost use lib.ListN.{getD};
 ghost use Rattle.patterns.specs.Seats.{patterns};
+use patterns::PATTERNS;
 use patterns::Shares;
 
 #[derive(Clone, Copy)]
@@ -36,5 +37,23 @@ impl Benefit {
         ensures { λ r. ⌜ now r ≡ now (self .entry) .shares ⌝ }
     {
         &self.shares
+    }
+
+    // A benefit whose parts were checked.
+    pub(crate) fn of(amount: u32, named: usize, twentieths: [u64; PATTERNS]) -> Benefit
+        requires priced { ⌜ (1 ≤ amount) × (amount ≤ 500000000) ⌝ }
+        requires seats { ⌜ named < patterns ⌝ }
+        requires most { ⌜ ((p : ℕ) → getD twentieths p 0 ≤ 20) ⌝ }
+        requires own { ⌜ ((p : ℕ) → p < patterns → getD twentieths p 0 ≡ getD twentieths (bitAnd p named) 0) ⌝ }
+        ensures amount { λ r. ⌜ r .amount ≡ amount ⌝ }
+        ensures named { λ r. ⌜ r .named ≡ named ⌝ }
+        ensures shares { λ r. ⌜ r .shares .twentieths ≡ twentieths ⌝ }
+    {
+        let shares = Shares { twentieths };
+        Benefit {
+            amount,
+            named,
+            shares,
+        }
     }
 }

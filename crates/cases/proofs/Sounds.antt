@@ -57,12 +57,15 @@ same-long zero m y e k h = omega arith
 same-long (suc n) m y e zero h = e
 same-long (suc n) m y e (suc k) h = same-long n m y e k (omega arith)
 
-pub opened-columns : Columns (vacancies)
+opened-columns : Columns (vacancies)
 unfolding Falls
 opened-columns = (refl, same-long seats 121 vacant refl, each-same Falls seats vacant zeros-fall (λ t. omega arith))
 
-pub opened-within : Within first (vacancies)
+opened-within : Within first (vacancies)
 opened-within = (each-same (λ s. 1 ≤ first s) seats vacant (omega arith) (omega arith), omega arith)
+
+pub opened-sound : (xs : List Seat) → xs ≡ vacancies → Columns xs × Within first xs
+opened-sound xs e = (subst Columns (sym e) opened-columns, subst (Within first) (sym e) opened-within)
 
 -- a seat that is withdrawn leaves the others as they were
 pub withdrawn-columns : (xs : List Seat) (i : ℕ) → Columns xs → Columns (set xs i vacant)

@@ -1,24 +1,20 @@
 -- How far the reader has come.
 use mathlib.Core.Path.{_≡_, refl, sym, ap, subst, _∙_}
 use mathlib.Core.List.{List, [], _∷_, _++_, map}
-use Prim.Native.Nat.{ℕ, zero, suc, _+_, _-_, _<_, _≤_}
+use Prim.Native.Nat.{ℕ, zero, suc, _+_, _<_, _≤_}
 use native.Mathlib.Omega.{arith}
-use lib.Bits.{bitAnd, bitOr}
+use lib.Bits.{bitOr}
 use lib.ListN.{length, take, getD}
 use Rattle.std.proofs.shelf.Lists.{take-more}
 use Rattle.std.proofs.shelf.Sums.{folded-push}
-use Rattle.stacks.specs.Items.{rest}
-use Rattle.tokens.specs.declared.Code.{Code}
 use Rattle.tokens.specs.declared.Token.{Token}
 use Rattle.expressions.specs.declared.Reader.{Reader}
-use Rattle.expressions.specs.declared.Word.{Word}
-use Rattle.expressions.specs.declared.Word.the-variants.{Or, And, Not, Open}
-use Rattle.expressions.specs.Grammar.{Tree, factor, Says, Viable}
-use Rattle.expressions.specs.Layout.{wordsIn, masksIn, words, masks, Fits}
+use Rattle.expressions.specs.Grammar.{Tree, Viable}
+use Rattle.expressions.specs.Layout.{wordsIn, masksIn, Fits}
 use Rattle.expressions.specs.Moves.{Moved, Stuck, wrong, Finished}
 use Rattle.tokens.specs.Letters.{seatsOf}
-use Rattle.expressions.specs.States.{State, Step, start, Ends, ends}
-use Rattle.expressions.specs.Verdict.{codesOf, placeOf, FirstWrong, Read, Verdict}
+use Rattle.expressions.specs.States.{State, start, Ends, ends}
+use Rattle.expressions.specs.Verdict.{codesOf, placeOf, Verdict}
 use Rattle.expressions.proofs.Moving.{step-words, step-masks}
 use Rattle.expressions.proofs.Names.{namedIn, named-is}
 use Rattle.expressions.proofs.Whole.{Stands, at-first, stands-more, viable, stuck, says-end, end-says}

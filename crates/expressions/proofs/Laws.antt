@@ -5,9 +5,7 @@ use Prim.Native.Nat.{ℕ}
 use native.Mathlib.Omega.{arith}
 use lib.Count.{ones}
 use Rattle.tokens.specs.declared.Code.{Code}
-use Rattle.expressions.specs.declared.Group.{Group}
 use Rattle.expressions.specs.declared.Group.the-variants as kind
-use Rattle.expressions.specs.declared.Count.{Count}
 use Rattle.expressions.specs.declared.Count.the-variants.{Exact, Least}
 use Rattle.tokens.specs.declared.Code.the-variants as code
 use Rattle.expressions.specs.Grammar.{Tree, Part, Reads, seat, group, not, and, or, factor, ands, term, ors, expression}

@@ -3,24 +3,21 @@ use mathlib.Core.Path.{_≡_, refl, sym, ap, subst, _∙_}
 use mathlib.Core.List.{List, [], _∷_}
 use Prim.Native.Nat.{ℕ, _+_, _-_, _≤_}
 use native.Mathlib.Omega.{arith}
-use mathlib.Core.Bool.{Bool, true, false, cond}
+use mathlib.Core.Bool.{true, false}
 use lib.ListN.{length}
-use Rattle.stacks.specs.Items.{rest}
-use lib.Bits.{bitAnd}
 use lib.Count.{ones}
 use Rattle.tokens.specs.declared.Code.{Code}
 use Rattle.tokens.specs.declared.Code.the-variants as code
 use Rattle.expressions.specs.declared.Group.{Group}
 use Rattle.expressions.specs.declared.Count.{Count}
-use Rattle.expressions.specs.declared.Group.the-variants as kind
 use Rattle.expressions.specs.declared.Reader.{Reader}
 use Rattle.expressions.specs.declared.Word.{Word}
 use Rattle.expressions.specs.declared.Word.the-variants.{Or, And, Not, Open}
 use Rattle.expressions.specs.declared.Expect.the-variants as expect
-use Rattle.expressions.specs.Grammar.{Tree, factor, term, expression, seat, group, not, and, or}
-use Rattle.expressions.specs.Layout.{wordsIn, masksIn, wordsOf, masksOf, words, masks, expects, Fits, Kept, completeWords, completeMasks, joinWords, joinMasks, isTop, isNil, top}
+use Rattle.expressions.specs.Grammar.{Tree, factor, term, expression, seat, group, not}
+use Rattle.expressions.specs.Layout.{wordsIn, masksIn, wordsOf, masksOf, words, masks, expects, Fits, Kept, completeWords, completeMasks, joinWords, joinMasks, isTop, isNil}
 use Rattle.expressions.specs.Masks.{always, maskOf}
-use Rattle.expressions.specs.Moves.{Moved, Stuck}
+use Rattle.expressions.specs.Moves.{Moved}
 use Rattle.tokens.specs.Letters.{seatsOf}
 use Rattle.expressions.specs.Open as part
 use Rattle.expressions.specs.Open.{whole, inside, first, after-or, lone, after-and, after-not}

@@ -1,12 +1,12 @@
 -- The letters of the tokens are those of the tree.
 use mathlib.Core.Path.{_≡_, refl, sym, ap, _∙_}
-use mathlib.Core.List.{List, [], _∷_}
+use mathlib.Core.List.{List}
 use Prim.Native.Nat.{ℕ}
 use lib.Bits.{bitOr, or-zero-l, or-zero-r}
 use Rattle.std.specs.Iters.{folded}
 use Rattle.tokens.specs.declared.Code.{Code}
 use Rattle.tokens.specs.Letters.{seatsOf}
-use Rattle.expressions.specs.Grammar.{Tree, Part, Reads, factor, ands, term, ors, expression, Says, seat, group, not, and, or}
+use Rattle.expressions.specs.Grammar.{Tree, Part, Reads, factor, ands, term, ors, expression, Says}
 use Rattle.expressions.specs.Grammar.{a-letter, a-joint, a-last, an-exactly, an-atleast, a-not, a-paren, no-and, an-and, a-term, no-or, an-or, an-expression}
 use Rattle.expressions.specs.Meaning.{seatsIn}
 use Rattle.expressions.proofs.Sets.{or-assoc}

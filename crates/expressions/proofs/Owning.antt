@@ -3,7 +3,7 @@ use mathlib.Core.Path.{_≡_, refl, sym, ap, subst, _∙_}
 use mathlib.Core.Bool.{Bool, true, false, _&&_, _||_}
 use mathlib.Core.Bool.{not as nay}
 use mathlib.Core.List.{List, [], _∷_}
-use Prim.Native.Nat.{ℕ, zero, suc, _<_, _≤_}
+use Prim.Native.Nat.{ℕ, zero, suc, _<_}
 use native.Mathlib.Omega.{arith}
 use lib.Bits.{bitAnd, bitOr, or-lt, and-self, and-le-l}
 use lib.Count.{ones}
@@ -27,7 +27,7 @@ use Rattle.expressions.specs.declared.Group.the-variants as kind
 use Rattle.expressions.specs.declared.Reading.{Reading}
 use Rattle.expressions.specs.declared.reads.ReadFault.{ReadFault}
 use Rattle.expressions.specs.declared.reads.ReadFault.the-variants as fault
-use Rattle.expressions.specs.Answers.{yes}
+use Rattle.expressions.specs.Answers.{bitOf, yes}
 use Rattle.expressions.specs.Cuts.{cutAll, cutFrom, full, one-more}
 use Rattle.expressions.specs.Grammar.{Tree, seat, group, not, and, or}
 use Rattle.expressions.specs.Meaning.{groupHolds, holds, seatsIn}
@@ -87,7 +87,7 @@ Owned (Ok x) = Own x
 Owned (Err e) = Unit {0}
 
 pub yes-holds : (x : Reading) (cs : List Code) (h : Read x cs) (p : ℕ) → p < patterns → yes x p ≡ holds (h .tree) p
-yes-holds x cs h p lt = ap (λ m. eqb (Prim.Native.Nat._%_ (Prim.Native.Nat._/_ m (Prim.Native.Nat._^_ 2 p)) 2) 1) (h .answers) ∙ packed-says (holds (h .tree)) patterns p lt
+yes-holds x cs h p lt = ap (λ m. bitOf m p) (h .answers) ∙ packed-says (holds (h .tree)) patterns p lt
 
 read-own : (x : Reading) (ts : List Token) → Small ts → Read x (codesOf ts) → Own x
 read-own x ts small h =

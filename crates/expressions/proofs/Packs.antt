@@ -1,13 +1,12 @@
 -- Answers packed one bit each: bounds, and the three connectives.
-use mathlib.Core.Path.{_≡_, refl, sym, ap, _∙_}
+use mathlib.Core.Path.{_≡_, refl, sym, _∙_}
 use mathlib.Core.Bool.{Bool, true, false, cond, _&&_, _||_}
 use mathlib.Core.Bool.{not as nay}
-use Prim.Native.Nat.{ℕ, zero, suc, _+_, _-_, _*_, _^_, _%_, _<_, _≤_}
+use Prim.Native.Nat.{ℕ, zero, suc, _+_, _*_, _^_, _<_}
 use native.Mathlib.Nat.{pow-suc}
 use native.Mathlib.Omega.{arith}
 use lib.Dec.{lit<}
 use lib.Bits.{bitAnd, bitOr, and-block, or-block}
-use Rattle.std.proofs.shelf.Bits.{pow-below, one-shl}
 use Rattle.patterns.specs.Seats.{patterns}
 use Rattle.expressions.specs.Grammar.{Tree, seat, group, not, and, or}
 use Rattle.expressions.specs.Meaning.{packed, holds}

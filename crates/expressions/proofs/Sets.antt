@@ -1,8 +1,8 @@
 -- Sets of seats as numbers: unions, intersections, and what lies within what.
-use mathlib.Core.Path.{_≡_, refl, sym, ap, _∙_}
-use Prim.Native.Nat.{ℕ, zero, suc, _+_, _*_, _/_, _%_, _^_, _<_, _≤_, min, max}
+use mathlib.Core.Path.{_≡_, sym, ap, _∙_}
+use Prim.Native.Nat.{ℕ, zero, suc, _/_, _%_, _≤_, min, max}
 use native.Mathlib.Omega.{arith}
-use lib.Bits.{bitAnd, bitOr, and-step, or-step, and-shr, or-shr, and-mod, or-mod, and-zero-l, or-zero-l, and-self, and-comm, or-comm}
+use lib.Bits.{bitAnd, bitOr, and-step, or-step, and-shr, or-shr, and-zero-l, or-zero-l, and-comm, or-comm}
 
 module _ (a b : ℕ) where
   or-half : bitOr a b / 2 ≡ bitOr (a / 2) (b / 2)

@@ -1,19 +1,17 @@
 -- What a call on a stack leaves.
-use mathlib.Core.Path.{_≡_, refl, sym, ap, _∙_}
-use mathlib.Core.Bool.{Bool, true, false, cond}
+use mathlib.Core.Path.{_≡_, refl, sym, ap}
+use mathlib.Core.Bool.{true, false, cond}
 use mathlib.Core.List.{List, [], _∷_, map}
-use Prim.Native.Nat.{ℕ, _+_, _-_, _<_, _≤_}
+use Prim.Native.Nat.{ℕ, _<_, _≤_}
 use native.Mathlib.Omega.{arith}
 use lib.ListN.{length}
-use Rattle.stacks.specs.Items.{items, room, head, rest}
+use Rattle.stacks.specs.Items.{rest}
 use Rattle.std.specs.Results.{Cases}
 use Rattle.std.specs.declared.result.Result.{Result}
 use Rattle.std.specs.declared.result.Result.the-variants.{Ok, Err}
 use Rattle.expressions.specs.declared.Word.{Word}
 use Rattle.expressions.specs.declared.Word.the-variants.{Or, And, Not, Open}
 use lib.Bits.{bitAnd, bitOr}
-use Rattle.std.specs.Options.{valueOr}
-use Rattle.std.specs.declared.option.Option.{Option}
 use Rattle.expressions.specs.Layout.{isTop, top, completeWords, completeMasks, joinWords, joinMasks}
 
 pub pushed : {A E : Type 0} (r : Result A E) (P Q : Type 0) → Cases r (λ _. P) (λ _. Q) → (Q → ⊥) → P

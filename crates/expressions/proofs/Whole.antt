@@ -1,11 +1,8 @@
 -- What a state says of the whole text.
-use mathlib.Core.Path.{_≡_, refl, sym, ap, subst, _∙_}
+use mathlib.Core.Path.{subst}
 use mathlib.Core.List.{List, [], _∷_, _++_, append-assoc, append-nil}
-use Prim.Native.Nat.{ℕ}
 use Rattle.tokens.specs.declared.Code.{Code}
-use Rattle.expressions.specs.Grammar.{Tree, Reads, expression, term, factor, ands, ors, Says, Viable}
-use Rattle.expressions.specs.Grammar.{a-term, an-expression}
-use Rattle.expressions.specs.Open.{After, lone, first, whole}
+use Rattle.expressions.specs.Grammar.{Tree, Says, Viable}
 use Rattle.expressions.specs.States.{State, Step, Ends, Accepts, start}
 use Rattle.expressions.proofs.Laws.{back, onward, over, ended, live, one-step, to-whole, from-whole}
 

@@ -2,7 +2,7 @@
 use mathlib.Core.Path.{_≡_}
 use mathlib.Core.Bool.{Bool, true, false, cond}
 use mathlib.Core.List.{List, [], _∷_, map}
-use Prim.Native.Nat.{ℕ, _-_, _<_}
+use Prim.Native.Nat.{ℕ, _-_}
 use lib.Bits.{bitAnd, bitOr}
 use lib.Dec.{eqb}
 use Rattle.stacks.specs.Items.{items, room, head, rest}
@@ -12,7 +12,7 @@ use Rattle.expressions.specs.declared.Word.the-variants.{Or, And, Not, Open}
 use Rattle.expressions.specs.declared.Expect.{Expect}
 use Rattle.expressions.specs.declared.Expect.the-variants as expect
 use Rattle.expressions.specs.declared.Reader.{Reader}
-use Rattle.expressions.specs.Grammar.{Tree, Part}
+use Rattle.expressions.specs.Grammar.{Part}
 use Rattle.expressions.specs.Masks.{always, maskOf}
 use Rattle.expressions.specs.Open as open-part
 use Rattle.expressions.specs.Open.{whole, inside, first, after-or, lone, after-and, after-not}

@@ -1,15 +1,9 @@
 -- What stands open to the left of a part, and what may still follow. Only the reader's own functions cite this.
-use mathlib.Core.Path.{_≡_, refl}
+use mathlib.Core.Path.{_≡_}
 use mathlib.Core.List.{List, [], _∷_}
-use Prim.Native.Nat.{ℕ}
 use Rattle.tokens.specs.declared.Code.{Code}
-use Rattle.expressions.specs.declared.Group.{Group}
-use Rattle.expressions.specs.declared.Group.the-variants as kind
-use Rattle.expressions.specs.declared.Count.{Count}
-use Rattle.expressions.specs.declared.Count.the-variants.{Exact, Least}
 use Rattle.tokens.specs.declared.Code.the-variants as code
-use Rattle.expressions.specs.Grammar.{Tree, Part, Reads, seat, group, not, and, or, factor, ands, term, ors, expression}
-use Rattle.expressions.specs.Grammar.{a-letter, a-joint, a-last, an-exactly, an-atleast, a-not, a-paren, no-and, an-and, a-term, no-or, an-or, an-expression}
+use Rattle.expressions.specs.Grammar.{Tree, Part, Reads, not, and, or, factor, ands, term, ors, expression}
 
 pub data Open : Part → Type 0 where
   whole : Open expression

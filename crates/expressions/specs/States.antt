@@ -1,6 +1,6 @@
 -- The states of the reader, and its steps from token to token. Only the reader's own functions cite this.
-use mathlib.Core.Path.{_≡_, refl}
-use mathlib.Core.List.{List, [], _∷_}
+use mathlib.Core.Path.{_≡_}
+use mathlib.Core.List.{List, _∷_}
 use Prim.Native.Nat.{ℕ}
 use lib.Count.{ones}
 use Rattle.tokens.specs.declared.Code.{Code}
@@ -9,7 +9,7 @@ use Rattle.expressions.specs.declared.Group.the-variants as kind
 use Rattle.expressions.specs.declared.Count.{Count}
 use Rattle.expressions.specs.declared.Count.the-variants.{Exact, Least}
 use Rattle.tokens.specs.declared.Code.the-variants as code
-use Rattle.expressions.specs.Grammar.{Tree, Part, Reads, seat, group, not, and, or, factor, ands, term, ors, expression}
+use Rattle.expressions.specs.Grammar.{Tree, Reads, seat, group, not, and, or, factor, ands, term, expression}
 use Rattle.expressions.specs.Open.{Open, whole, inside, first, after-or, lone, after-and, after-not, After}
 
 -- the group of a word and its digit

@@ -18,10 +18,19 @@ zeros-at zero t = refl
 zeros-at (suc n) zero = refl
 zeros-at (suc n) (suc t) = zeros-at n t
 
-pub constant-le : (n a t : ℕ) → getD (replicate n a) t 0 ≤ a
-constant-le zero a t = omega arith
-constant-le (suc n) a zero = omega arith
-constant-le (suc n) a (suc t) = constant-le n a t
+-- a list of one entry throughout
+pub constant-within : (n a m : ℕ) → a ≤ m → (t : ℕ) → getD (replicate n a) t 0 ≤ m
+constant-within zero a m h t = omega arith
+constant-within (suc n) a m h zero = h
+constant-within (suc n) a m h (suc t) = constant-within n a m h t
+
+falls-on : (n a t : ℕ) → getD (replicate n a) (suc t) 0 ≤ getD (replicate n a) t 0
+falls-on zero a t = omega arith
+falls-on (suc n) a zero = constant-within n a a (omega arith) 0
+falls-on (suc n) a (suc t) = falls-on n a t
+
+pub constant-falls : (n a t : ℕ) → getD (replicate n a) (t + 1) 0 ≤ getD (replicate n a) t 0
+constant-falls n a t = rw add-one (falls-on n a t)
 
 -- a list's entries keep a limit after one is written
 pub set-limited : (xs : List ℕ) (i v m : ℕ) → v ≤ m → ((t : ℕ) → getD xs t 0 ≤ m) → (t : ℕ) → getD (set xs i v) t 0 ≤ m

@@ -2,7 +2,7 @@
 ghost use mathlib.Core.Path.{_≡_};
 ghost use mathlib.Core.Bool.{true, false};
 ghost use Prim.Native.Nat.{ℕ, _+_, _≤_};
-ghost use lib.ListN.{length, getD};
+ghost use lib.ListN.{length, getD, replicate};
 ghost use Rattle.refusals.specs.declared.Refusal.the-variants.{Counts};
 ghost use Rattle.std.specs.Results.{Cases};
 ghost use Rattle.lives.specs.Column.{column};
@@ -51,8 +51,9 @@ fn filled(list: &[u32]) -> [u32; 121]
 }
 
 impl Aggregate {
+    // All counts are 0 at first.
     pub fn new() -> Aggregate
-        ensures { λ r. ⌜ ((t : ℕ) → listed (r .counts) t ≡ 0) ⌝ }
+        ensures { λ r. ⌜ r .counts ≡ replicate 121 0 ⌝ }
     {
         Aggregate { counts: [0; 121] }
     }

@@ -16,6 +16,7 @@ pub struct DeMoivre {
 }
 
 impl DeMoivre {
+    // All counts are 0 at first.
     pub fn new() -> DeMoivre
         ensures { λ r. ⌜ ((t : ℕ) → straight (r .years) (r .step) t ≡ 0) ⌝ }
     {

@@ -1,14 +1,14 @@
 -- How a pile of the first n of a list grows and shrinks.
 use mathlib.Core.Path.{_≡_, refl, sym, ap, _∙_}
 use mathlib.Core.Logic.{⊎-elim}
-use mathlib.Core.List.{List, [], _∷_, _++_, reverse, reverse-append}
-use Prim.Native.Nat.{ℕ, suc, _+_, _-_, _≤_, _<_, min}
+use mathlib.Core.List.{List, [], _∷_, reverse, reverse-append}
+use Prim.Native.Nat.{ℕ, _+_, _-_, _≤_, _<_, min}
 use native.Mathlib.Omega.{arith}
 use lib.ListN.{length, take, getD, set, length-take}
 use lib.Seq.{take-all}
 use Rattle.std.proofs.shelf.Lists.{take-more, take-more-set, length-reverse}
 use Rattle.std.proofs.str.Laws.{order}
-use Rattle.stacks.specs.Items.{piled, head, rest, items, room}
+use Rattle.stacks.specs.Items.{piled, items, room}
 use Rattle.stacks.specs.declared.Stack.{Stack}
 
 module _ {T : Type 0} where

@@ -1,8 +1,8 @@
 -- A token names no seats but those that there are.
-use mathlib.Core.Path.{_≡_, refl, sym, ap, subst}
+use mathlib.Core.Path.{_≡_, subst}
 use mathlib.Core.Bool.{Bool, true, false, cond, _&&_}
 use mathlib.Core.List.{List, [], _∷_}
-use Prim.Native.Nat.{ℕ, _+_, _-_, _^_, _<_, _≤_}
+use Prim.Native.Nat.{ℕ, _+_, _-_, _<_, _≤_}
 use native.Mathlib.Omega.{arith}
 use lib.Bits.{bitOr, or-lt}
 use lib.Dec.{leb, ltb, eqb, lit<}
@@ -20,7 +20,7 @@ use Rattle.patterns.specs.Seats.{seats, patterns}
 use Rattle.refusals.specs.declared.Refusal.the-variants.{UnknownByte, UnknownWord, NotRising}
 use Rattle.tokens.specs.declared.classes.Class.the-variants.{Space, Lower, Seat}
 use Rattle.tokens.specs.declared.Code.{Code}
-use Rattle.tokens.specs.declared.Code.the-variants.{Or, And, Not, Joint, Last, Exactly, AtLeast, Letters, Digit, Open, Close, OpenSquare, CloseSquare}
+use Rattle.tokens.specs.declared.Code.the-variants.{Or, And, Not, Joint, Last, Exactly, AtLeast, Digit, Open, Close, OpenSquare, CloseSquare}
 use Rattle.tokens.specs.declared.faults.TokenFault.{TokenFault}
 use Rattle.tokens.specs.declared.scan.Scanned.{Scanned}
 use Rattle.tokens.specs.declared.Token.{Token}

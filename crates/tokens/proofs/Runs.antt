@@ -1,8 +1,8 @@
 -- The bytes of a longest run are all of its class.
-use mathlib.Core.Path.{_≡_, refl, sym, ap, subst}
+use mathlib.Core.Path.{_≡_, refl}
 use mathlib.Core.Bool.{Bool, true, false, cond}
 use mathlib.Core.List.{List, [], _∷_}
-use Prim.Native.Nat.{ℕ, suc, _+_}
+use Prim.Native.Nat.{_+_}
 use native.Mathlib.Numerals.{one-add}
 use lib.ListN.{take}
 use Rattle.std.specs.shelf.Lists.{All, leading}

@@ -1,3 +1,4 @@
+-- The needs of `close`.
 use mathlib.Core.Path.{ap}
 use native.Mathlib.Omega.{arith}
 use lib.ListN.{length}

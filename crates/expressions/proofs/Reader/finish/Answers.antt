@@ -1,14 +1,10 @@
+-- The needs of `finish`.
 use mathlib.Core.Path.{_≡_, refl, sym, ap, subst, _∙_}
-use mathlib.Core.List.{List, _∷_}
-use Prim.Native.Nat.{ℕ}
+use mathlib.Core.List.{_∷_}
 use Rattle.std.specs.Options.{valueOr}
-use Rattle.expressions.specs.declared.Expect.the-variants as expect
-use Rattle.expressions.specs.declared.Reading.{Reading}
-use Rattle.expressions.specs.Grammar.{Tree}
-use Rattle.expressions.specs.Layout.{wordsIn, masksIn, wordsOf, masksOf, words, masks, Fits, joinWords, joinMasks, isNil, top}
+use Rattle.expressions.specs.Layout.{wordsIn, masksIn, wordsOf, masksOf, words, masks, joinWords, joinMasks, isNil, top}
 use Rattle.expressions.specs.Masks.{maskOf}
-use Rattle.expressions.specs.Moves.{wrong}
-use Rattle.expressions.specs.States.{State, operator, joined, outer, Ends, ends}
+use Rattle.expressions.specs.States.{joined, outer, Ends, ends}
 use Rattle.expressions.proofs.Moving.{joined-words, joined-masks, nothing-open, still-open, not-ended, at-operator}
 use Rattle.expressions.proofs.Reader.finish.Needs as need
 

@@ -1,22 +1,8 @@
-use mathlib.Core.Path.{_≡_, refl, sym, ap, subst, _∙_}
-use mathlib.Core.List.{List, _∷_}
-use Prim.Native.Nat.{_<_}
-use native.Mathlib.Omega.{arith}
-use lib.ListN.{length}
-use Rattle.stacks.specs.Items.{items, room, rest}
-use Rattle.tokens.specs.declared.Code.{Code}
-use Rattle.tokens.specs.declared.Code.the-variants as code
-use Rattle.expressions.specs.declared.Expect.the-variants as expect
-use Rattle.expressions.specs.declared.Reader.{Reader}
-use Rattle.expressions.specs.declared.Word.the-variants.{Or, And, Not, Open}
-use Rattle.expressions.specs.Grammar.{factor, seat, group}
-use Rattle.expressions.specs.Layout.{wordsIn, masksIn, wordsOf, masksOf, Kept, Fits, joinWords, joinMasks, isTop}
-use Rattle.expressions.specs.Masks.{maskOf}
-use Rattle.expressions.specs.Moves.{Moved, Stuck}
-use Rattle.expressions.specs.Open as part
-use Rattle.expressions.specs.Open.{inside, first, lone, after-or, after-and, after-not}
-use Rattle.expressions.specs.States.{State, operand, operator, digit, square, letters, closing, settled, joined, outer, counted, by-digit, by-square, by-letters, by-closing, by-and, by-or, by-close}
-use Rattle.expressions.proofs.Moving.{as-before, kept-on, at-token, fits-settled, digit-stuck, square-stuck, run-stuck, closing-stuck, operator-stuck, close-stuck, open-there, joined-words, joined-masks}
+-- The needs of `letters`.
+use mathlib.Core.Path.{refl}
+use Rattle.expressions.specs.Grammar.{group}
+use Rattle.expressions.specs.States.{letters, closing, by-letters}
+use Rattle.expressions.proofs.Moving.{as-before, at-token, run-stuck}
 use Rattle.expressions.proofs.Reader.letters.Needs as need
 
 pub returns-in-Letters : need.returns-in-Letters

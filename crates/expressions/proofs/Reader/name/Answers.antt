@@ -1,3 +1,4 @@
+-- The needs of `name`.
 use mathlib.Core.Path.{refl, sym, ap, _∙_}
 use lib.Bits.{bitOr, or-zero-r}
 use Rattle.expressions.proofs.Moving.{no-seats}

@@ -1,17 +1,13 @@
-use mathlib.Core.Path.{_≡_, refl, sym, ap, subst, _∙_}
-use mathlib.Core.List.{List, _∷_}
-use Rattle.tokens.specs.declared.Code.{Code}
-use Rattle.tokens.specs.declared.Code.the-variants as code
+-- The needs of `operand`.
+use mathlib.Core.Path.{refl, sym, ap, subst, _∙_}
+use mathlib.Core.List.{_∷_}
 use Rattle.expressions.specs.declared.Count.the-variants.{Exact, Least}
 use Rattle.expressions.specs.declared.Group.the-variants as kind
-use Rattle.expressions.specs.declared.Reader.{Reader}
-use Rattle.expressions.specs.declared.Word.the-variants.{Or, And, Not, Open}
-use Rattle.expressions.specs.Grammar.{factor, seat}
-use Rattle.expressions.specs.Layout.{Kept, Fits}
-use Rattle.expressions.specs.Moves.{Moved, Stuck}
-use Rattle.expressions.specs.Open as part
+use Rattle.expressions.specs.declared.Word.the-variants.{Not, Open}
+use Rattle.expressions.specs.Grammar.{seat}
+use Rattle.expressions.specs.Moves.{Stuck}
 use Rattle.expressions.specs.Open.{inside, first, lone, after-not}
-use Rattle.expressions.specs.States.{State, operand, digit, square, settled, by-not, by-open, by-letter, by-joint, by-last, by-exactly, by-atleast}
+use Rattle.expressions.specs.States.{operand, digit, square, settled, by-not, by-open, by-letter, by-joint, by-last, by-exactly, by-atleast}
 use Rattle.expressions.proofs.Moving.{as-before, at-token, fits-settled, operand-stuck, letters-stuck}
 use Rattle.expressions.proofs.Reader.operand.Needs as need
 

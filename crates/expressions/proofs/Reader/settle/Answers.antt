@@ -1,3 +1,4 @@
+-- The needs of `settle`.
 use mathlib.Core.Path.{refl}
 use native.Mathlib.Omega.{arith}
 use Rattle.expressions.proofs.Stacks.{pushed}

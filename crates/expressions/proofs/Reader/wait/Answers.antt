@@ -1,3 +1,4 @@
+-- The needs of `wait`.
 use mathlib.Core.Path.{refl, ap}
 use mathlib.Core.List.{map}
 use native.Mathlib.Omega.{arith}

@@ -1,13 +1,13 @@
-use mathlib.Core.Path.{_≡_, refl, sym, ap, subst, _∙_}
+-- The needs of `cut`.
+use mathlib.Core.Path.{_≡_, sym, ap, _∙_}
 use Prim.Native.Nat.{ℕ, suc, _-_, _+_}
 use native.Mathlib.Omega.{arith}
-use lib.ListN.{length, take, set, length-set}
+use lib.ListN.{take, set, length-set}
 use mathlib.Core.List.{append-nil}
 use Rattle.std.proofs.shelf.Results.{err-from-errBy}
-use Rattle.std.specs.declared.option.Option.the-variants.{Some, None}
 use Rattle.std.specs.declared.result.Result.the-variants.{Ok, Err}
-use Rattle.tokens.specs.Look.{look, after, lexed, at}
-use Rattle.expressions.specs.Cuts.{cutAll, cutFrom, prefixed, full}
+use Rattle.tokens.specs.Look.{look, after, at}
+use Rattle.expressions.specs.Cuts.{cutFrom, prefixed, full}
 use Rattle.expressions.proofs.Cutting.{prefixed-none, cut-some, cut-none, cut-err, cut-end}
 use Rattle.expressions.proofs.cut.cut.Needs as need
 

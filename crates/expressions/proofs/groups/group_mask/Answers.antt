@@ -1,6 +1,7 @@
-use mathlib.Core.Path.{_≡_, sym, ap, _∙_}
+-- The needs of `group_mask`.
+use mathlib.Core.Path.{ap}
 use mathlib.Core.Bool.{cond}
-use Prim.Native.Nat.{ℕ, suc, _+_, _^_, _<_, _≤_}
+use Prim.Native.Nat.{suc, _^_, _≤_}
 use native.Mathlib.Nat.{pow-suc}
 use native.Mathlib.Numerals.{add-one}
 use native.Mathlib.Omega.{arith}

@@ -1,3 +1,4 @@
+-- The invariant of the loop in `group_mask`.
 use mathlib.Core.Path.{_≡_}
 use Rattle.expressions.specs.Meaning.{packed, groupHolds}
 use Rattle.expressions.proofs.groups.group_mask.Given as given

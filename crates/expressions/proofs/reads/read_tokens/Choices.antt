@@ -1,4 +1,4 @@
-use mathlib.Core.Path.{_≡_}
+-- The invariant of the loop in `read_tokens`.
 use Prim.Native.Nat.{_≤_}
 use Rattle.stacks.specs.Items.{room}
 use Rattle.expressions.proofs.Along.{Along}

@@ -1,6 +1,6 @@
 -- The needs of the stack's `push`.
 use borrow.Author.Needs.{needs}
-use mathlib.Core.Path.{refl, sym, ap, _∙_}
+use mathlib.Core.Path.{sym, ap, _∙_}
 use mathlib.Core.List.{_∷_}
 use native.Mathlib.Omega.{arith}
 use Rattle.stacks.proofs.Piles.{piled-push, piled-clip}

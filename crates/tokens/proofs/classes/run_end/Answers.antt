@@ -1,7 +1,6 @@
 -- The needs of `run_end`.
-use borrow.Author.Needs.{needs}
 use native.Mathlib.Omega.{arith}
-use mathlib.Core.Path.{sym, _∙_}
+use mathlib.Core.Path.{sym}
 use Rattle.std.proofs.shelf.Sums.{leading-drop-yes, leading-drop-no, leading-drop-all}
 use Rattle.tokens.specs.Classes.{member}
 use Rattle.tokens.proofs.classes.run_end.Needs as need

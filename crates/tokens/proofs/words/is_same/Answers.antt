@@ -1,5 +1,4 @@
 -- The needs of `is_same`.
-use borrow.Author.Needs.{needs}
 use Rattle.std.proofs.shelf.Equals.{matches-decides, sameBytes-decides}
 use Rattle.std.proofs.shelf.Ways.{same-from-decides}
 use Rattle.tokens.proofs.words.is_same.Needs as need

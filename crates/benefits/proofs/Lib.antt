@@ -1,0 +1,4 @@
+pub mod Owning
+pub mod Parting
+pub mod Saying
+pub mod Verdicts

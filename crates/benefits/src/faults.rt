@@ -1,0 +1,48 @@
+// The fault of a token, carried whole into the fault of its clause and of its benefit.
+ghost use mathlib.Core.Path.{_≡_};
+ghost use Rattle.benefits.specs.Carried.{inClause, inBenefit};
+use refusals::Refusal;
+use tokens::faults::Numbered;
+use tokens::faults::TokenFault;
+
+// A fault, and where the faulty text begins in the clauses' text.
+#[derive(Clone, Copy)]
+pub struct PartFault {
+    pub start: usize,
+    pub fault: TokenFault,
+}
+
+// The fault of a clause, whose number counts from 1.
+#[derive(Clone, Copy)]
+pub struct ClauseFault {
+    pub clause: usize,
+    pub start: usize,
+    pub fault: TokenFault,
+}
+
+// Why a benefit cannot be read.
+#[derive(Clone, Copy)]
+pub enum BenefitFault {
+    Refused(Refusal),
+    Clause(ClauseFault),
+}
+
+pub impl From<Numbered<PartFault>> for ClauseFault as ClauseFromPart {
+    ghost converts = { λ n c. c ≡ inClause (n .number) (n .fault) };
+
+    fn from(n: Numbered<PartFault>) -> ClauseFault {
+        ClauseFault {
+            clause: n.number,
+            start: n.fault.start,
+            fault: n.fault.fault,
+        }
+    }
+}
+
+pub impl From<ClauseFault> for BenefitFault as BenefitFromClause {
+    ghost converts = { λ e f. f ≡ inBenefit e };
+
+    fn from(e: ClauseFault) -> BenefitFault {
+        BenefitFault::Clause(e)
+    }
+}

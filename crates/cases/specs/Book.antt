@@ -14,10 +14,12 @@ use Rattle.seats.specs.declared.seat.Mark.the-variants.{Empty, Living, Failed}
 use Rattle.seats.specs.declared.seat.Seat.{Seat}
 use Rattle.seats.specs.Seats.{vacant, vacancies, living, failed, seatAt, product, first, greatest, isEmpty, lives, ending, anyOf}
 
+-- a case is first enrolling, then in force
 pub data Phase : Type 0 where
   enrolment : Phase
   in-force : Phase
 
+-- the phase, the seats' records, and the elapsed years
 pub record Book : Type 0 where
   pub phase : Phase
   pub seats : List Seat
@@ -42,6 +44,7 @@ pub data Call : Type 0 where
   fail : ℕ → Call
   year-end : Call
 
+-- accepted, or why not
 abbrev pub Answer : Type 0
 Answer = Result (Unit {0}) Refusal
 
@@ -58,6 +61,7 @@ judge-enrol xs i counts =
 abbrev pub judge-withdraw : List Seat → ℕ → Answer
 judge-withdraw xs i = cond (leb number-of-seats i) (Err NoSeat) (cond (isEmpty (seatAt xs i .mark)) (Err Vacant) (Ok tt))
 
+-- whether a seat of this mark may fail
 abbrev pub judge-mark : Mark → Answer
 judge-mark Empty = Err Vacant
 judge-mark Living = Ok tt
@@ -91,6 +95,7 @@ done start b = running (b .seats) 0
 done (fail i) b = seating b (set (b .seats) i (failed (seatAt (b .seats) i .counts)))
 done year-end b = record { phase = b .phase; seats = b .seats; elapsed = cond (anyOf lives (b .seats)) (b .elapsed + 1) (b .elapsed) }
 
+-- the new book if the call is accepted, else the old one
 abbrev pub by-answer : Answer → Book → Book → Book
 by-answer (Ok u) new old = new
 by-answer (Err e) new old = old

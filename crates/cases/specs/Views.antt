@@ -5,6 +5,7 @@ use Rattle.cases.specs.declared.inforce.InForce.{InForce}
 use Rattle.cases.specs.declared.inforce.Closed.{Closed}
 use Rattle.cases.specs.Book.{Book, opened, running}
 
+-- of a case that is enrolling, and of one in force
 abbrev pub enrollingBook : Enrolling → Book
 enrollingBook c = opened (c .table .seats)
 

@@ -6,6 +6,7 @@ use seats::table::SeatTable;
 
 pub mod calls;
 
+// Every seat has a whole column, and the counts of year 0 multiply to no more than they may.
 #[derive(Drop)]
 pub struct Enrolling {
     pub(crate) table: SeatTable,

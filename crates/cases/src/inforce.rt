@@ -7,6 +7,7 @@ use seats::table::SeatTable;
 pub mod calls;
 pub mod weigh;
 
+// Every seat has a whole column, and the present counts are at least 1 and multiply to no more than they may.
 #[derive(Drop)]
 pub struct InForce {
     table: SeatTable,

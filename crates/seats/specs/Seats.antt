@@ -14,6 +14,7 @@ use Rattle.seats.specs.declared.seat.Seat.{Seat}
 abbrev pub Seated : ℕ → Type 0
 Seated i = i < seats
 
+-- a seat's record of its counts and its mark
 abbrev pub seat-of : List ℕ → Mark → Seat
 seat-of xs m = record { counts = xs; mark = m }
 
@@ -21,6 +22,7 @@ seat-of xs m = record { counts = xs; mark = m }
 abbrev pub vacant : Seat
 vacant = seat-of (replicate 121 0) Empty
 
+-- a seat whose life lives, and one whose life has failed
 abbrev pub living : List ℕ → Seat
 living xs = seat-of xs Living
 
@@ -39,6 +41,7 @@ seatAt xs i = getD xs i (seat-of [] Empty)
 abbrev pub countAt : List Seat → ℕ → ℕ → ℕ
 countAt xs i t = getD (seatAt xs i .counts) t 0
 
+-- is the mark that of an empty, a living, a failed seat
 abbrev pub isEmpty : Mark → Bool
 isEmpty Empty = true
 isEmpty Living = false
@@ -54,6 +57,7 @@ isFailed Empty = false
 isFailed Living = false
 isFailed Failed = true
 
+-- is the seat living
 abbrev pub lives : Seat → Bool
 lives s = isLiving (s .mark)
 
@@ -71,6 +75,7 @@ abbrev pub failures : List Seat → ℕ
 failures [] = 0
 failures (s ∷ ss) = cond (isFailed (s .mark)) 1 0 + failures ss
 
+-- what is counted of each seat, multiplied
 abbrev pub product : (Seat → ℕ) → List Seat → ℕ
 product f [] = 1
 product f (x ∷ xs) = f x * product f xs

@@ -14,6 +14,7 @@ use seats::table::SeatTable;
 const GREATEST: u128 = 10_000_000_000_000_000;
 
 impl Enrolling {
+    // A new case: every seat is empty, its counts 0.
     pub fn open() -> Enrolling
         ensures { λ r. ⌜ enrollingBook r ≡ beginning ⌝ }
     {
@@ -22,6 +23,7 @@ impl Enrolling {
         }
     }
 
+    // An empty seat becomes living with the life's counts.
     pub fn enrol<L: Life>(&mut self, seat: usize, life: &L) -> Result<(), Refusal>
         ensures answer { λ r. ⌜ r ≡ judged (enrol seat (column (count (now (life .entry))))) (enrollingBook (now (self .entry))) ⌝ }
         ensures after { λ _. ⌜ enrollingBook (now (self .exit)) ≡ step (enrol seat (column (count (now (life .entry))))) (enrollingBook (now (self .entry))) ⌝ }
@@ -45,6 +47,7 @@ impl Enrolling {
         Ok(())
     }
 
+    // The seat is empty again, its counts 0.
     pub fn withdraw(&mut self, seat: usize) -> Result<(), Refusal>
         ensures answer { λ r. ⌜ r ≡ judged (withdraw seat) (enrollingBook (now (self .entry))) ⌝ }
         ensures after { λ _. ⌜ enrollingBook (now (self .exit)) ≡ step (withdraw seat) (enrollingBook (now (self .entry))) ⌝ }

@@ -11,6 +11,7 @@ use refusals::Refusal;
 use seats::seat::Mark;
 
 impl Enrolling {
+    // The case goes in force; no year has elapsed.
     pub fn start(self) -> InForce
         ensures { λ r. ⌜ inForceBook r ≡ step start (enrollingBook self) ⌝ }
     {
@@ -20,6 +21,7 @@ impl Enrolling {
 }
 
 impl InForce {
+    // A living seat fails.
     pub fn fail(&mut self, seat: usize) -> Result<(), Refusal>
         ensures answer { λ r. ⌜ r ≡ judged (fail seat) (inForceBook (now (self .entry))) ⌝ }
         ensures after { λ _. ⌜ inForceBook (now (self .exit)) ≡ step (fail seat) (inForceBook (now (self .entry))) ⌝ }
@@ -36,6 +38,7 @@ impl InForce {
         Ok(())
     }
 
+    // A year ends: one more has elapsed if any seat is living.
     pub fn year_end(&mut self) -> Result<(), Refusal>
         ensures answer { λ r. ⌜ r ≡ judged yearEnd (inForceBook (now (self .entry))) ⌝ }
         ensures after { λ _. ⌜ inForceBook (now (self .exit)) ≡ step yearEnd (inForceBook (now (self .entry))) ⌝ }
@@ -49,6 +52,7 @@ impl InForce {
         Ok(())
     }
 
+    // The case ends.
     pub fn close(self) -> Closed
         ensures { λ r. ⌜ r ≡ closed (inForceBook self) ⌝ }
     {

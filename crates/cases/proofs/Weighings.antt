@@ -82,8 +82,8 @@ module _ (b : Book) (columns : Columns (b .seats)) (within : Within (present (b 
   pub held-sound : Sound (kept (flags number-of-seats N) (exposuresFor b t))
   held-sound i =
       ⊎-elim (λ (h : i < length all).
-        each (λ (x : Exposure). x .count ≤ x .present) (omega arith)
-        (λ j. sound-one (seatAt (b .seats) j .mark) (getD (seatAt (b .seats) j .counts) (b .elapsed + t) 0) (getD (seatAt (b .seats) j .counts) (b .elapsed) 0) (falls (seatAt (b .seats) j .counts) (b .elapsed) t (columns .2 j))) i h)
+      each (λ (x : Exposure). x .count ≤ x .present) (omega arith)
+      (λ j. sound-one (seatAt (b .seats) j .mark) (getD (seatAt (b .seats) j .counts) (b .elapsed + t) 0) (getD (seatAt (b .seats) j .counts) (b .elapsed) 0) (falls (seatAt (b .seats) j .counts) (b .elapsed) t (columns .2 j))) i h)
       (λ (h : length all ≤ i). subst (λ (x : Exposure). x .count ≤ x .present) (sym (getD-past held i _ (omega (arith, held-long, all-long)))) (omega arith))
       (cases-lt i (length all))
 
@@ -99,10 +99,10 @@ module _ (b : Book) (columns : Columns (b .seats)) (within : Within (present (b 
       → found ≡ kept (flags number-of-seats N) (exposuresFor b t)
   held-found found e h =
       ext-getD _ found held (e ∙ sym held-long) (λ i k.
-        let q : i < number-of-seats = omega arith in
-        let m : i < length all = omega (arith, all-long) in
-        h i q
-        ∙ sym (ap (λ (n : ℕ). exposureAt (kept (flags n N) all) i) (sym all-long) ∙ kept-at all N i _ m ∙ ap (λ (x : Exposure). cond (isMember N i) x lost) (at-seat i (inner i m))))
+      let q : i < number-of-seats = omega arith in
+      let m : i < length all = omega (arith, all-long) in
+      h i q
+      ∙ sym (ap (λ (n : ℕ). exposureAt (kept (flags n N) all) i) (sym all-long) ∙ kept-at all N i _ m ∙ ap (λ (x : Exposure). cond (isMember N i) x lost) (at-seat i (inner i m))))
 
 -- ---- the products of the present counts
 named-is : (s t : ℕ) (N : Pattern) (xs : List Seat) → productNamed N standing (map (exposureFor s t) xs) ≡ productNamed N (present s) xs

@@ -20,7 +20,10 @@ use weights::exposure::Exposure;
 use weights::exposures::Exposures;
 use weights::weight::Weight;
 
-const LOST: Exposure = Exposure { count: 0, present: 1 };
+const LOST: Exposure = Exposure {
+    count: 0,
+    present: 1,
+};
 
 impl InForce {
     // A seat as the weight for a year sees it.

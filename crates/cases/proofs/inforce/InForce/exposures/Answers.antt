@@ -12,8 +12,7 @@ pub ghost-result : need.ghost-result
 ghost-result c =
     let me = c .args .self .now in
     let b = inForceBook me in
-    let e = sym (held-found b (me .columns) (me .within) (c .args .year) (c .args .named) (c .loop-seat .found) (c .loop-seat .inv .0) (λ i h. c .loop-seat .inv .1 i (omega arith))) in
-    (
+    let e = sym (held-found b (me .columns) (me .within) (c .args .year) (c .args .named) (c .loop-seat .found) (c .loop-seat .inv .0) (λ i h. c .loop-seat .inv .1 i (omega arith))) in (
       c .loop-seat .inv .0,
       (
         subst Sound e (held-sound b (me .columns) (me .within) (c .args .year) (c .args .named)),

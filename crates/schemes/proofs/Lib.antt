@@ -1,0 +1,5 @@
+pub mod Numbering
+pub mod Tabling
+pub mod Fielding
+pub mod Giving
+pub mod Enrolments

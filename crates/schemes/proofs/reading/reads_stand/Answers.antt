@@ -1,0 +1,5 @@
+use Rattle.schemes.proofs.Giving.{reads-stand}
+use Rattle.schemes.proofs.reading.reads_stand.Needs as need
+
+pub returns : need.returns
+returns c = reads-stand

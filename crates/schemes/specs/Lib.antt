@@ -1,0 +1,5 @@
+pub mod Faults
+pub mod Most
+pub mod Syntax
+pub mod Enrolment
+pub mod Counts

@@ -1,0 +1,13 @@
+-- The numbers that a line can use.
+use Prim.Native.Nat.{ℕ}
+
+-- how many of a line's numbers are kept: a table and two more counts than a life has
+abbrev pub most : ℕ
+most = 123
+
+-- how many tables there are, and how many counts a table holds
+abbrev pub tableCount : ℕ
+tableCount = 4
+
+abbrev pub yearCount : ℕ
+yearCount = 121

@@ -1,0 +1,2 @@
+// A session: what each line of a scheme file does.
+pub mod session;

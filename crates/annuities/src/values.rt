@@ -3,7 +3,7 @@ ghost use mathlib.Core.Path.{_≡_};
 ghost use Prim.Native.Nat.{_*_, _^_, _≤_};
 ghost use Rattle.std.specs.Results.{Cases};
 ghost use Rattle.cases.specs.Views.{inForceBook};
-ghost use Rattle.annuities.specs.Values.{factored, summed, valued, CutOf};
+ghost use Rattle.annuities.specs.Values.{factored, factorOf, summed, valued, CutOf};
 use crate::cuts::yearly;
 use crate::discounts::HIGHEST_RATE;
 use crate::discounts::UNIT;
@@ -34,6 +34,24 @@ pub fn yearly_factor(
     Ok(yearly(&weight, at(rate, year)))
 }
 
+// The sum of the yearly factors of years 0 to 120, also where the benefit is not accepted.
+fn summed_years(case: &InForce, benefit: &Benefit, rate: u32) -> u64
+    ensures value { λ r. ⌜ r ≡ factorOf (inForceBook (now (case .entry))) (now (benefit .entry)) rate ⌝ }
+    ensures bound { λ r. ⌜ r ≤ 121 * 10 ^ 8 ⌝ }
+{
+    let mut factor = 0;
+    let mut discount = UNIT;
+    for year in 0..YEARS {
+        let weight = case.weight(benefit, year);
+        if weight.weight == 0 && case.is_over(benefit, year) {
+            return factor;
+        }
+        factor += yearly(&weight, discount);
+        discount = next(discount, rate);
+    }
+    factor
+}
+
 // The sum of the yearly factors of years 0 to 120 at a rate.
 pub fn factor(case: &InForce, benefit: &Benefit, rate: u32) -> Result<u64, Refusal>
     ensures value { λ r. ⌜ r ≡ summed (inForceBook (now (case .entry))) (now (benefit .entry)) rate ⌝ }
@@ -42,14 +60,8 @@ pub fn factor(case: &InForce, benefit: &Benefit, rate: u32) -> Result<u64, Refus
     if rate > HIGHEST_RATE {
         return Err(Refusal::Number);
     }
-    let mut factor = 0;
-    let mut discount = UNIT;
-    for year in 0..YEARS {
-        let weight = case.weigh_by_patterns(benefit, year)?;
-        factor += yearly(&weight, discount);
-        discount = next(discount, rate);
-    }
-    Ok(factor)
+    case.test_weigh(benefit, 0)?;
+    Ok(summed_years(case, benefit, rate))
 }
 
 // The factor of a benefit at a rate, and the value of its amount.

@@ -3,14 +3,15 @@ use mathlib.Core.Path.{_≡_, refl, sym, ap, ap₂, subst, _∙_}
 use mathlib.Core.Logic.{⊎-elim}
 use mathlib.Core.Bool.{Bool, true, false, cond}
 use mathlib.Core.List.{List, [], _∷_, map}
-use Prim.Native.Nat.{ℕ, zero, suc, _+_, _*_, _^_, _<_, _≤_}
+use Prim.Native.Nat.{ℕ, zero, suc, min, _+_, _-_, _*_, _^_, _<_, _≤_}
 use native.Mathlib.Nat.{le-trans, le-of-eq, add-zero, add-suc, mul-le-mul, mul-le-mul-left}
 use native.Mathlib.Numerals.{add-one}
 use native.Mathlib.Omega.{arith}
-use lib.ListN.{length, getD}
+use lib.Dec.{ltb}
+use lib.ListN.{length, getD, drop}
 use lib.Seq.{ext-getD}
-use Rattle.std.proofs.shelf.Lists.{getD-past}
-use Rattle.std.proofs.shelf.Tests.{cases-lt}
+use Rattle.std.proofs.shelf.Lists.{getD-past, drop-more, drop-all}
+use Rattle.std.proofs.shelf.Tests.{cases-lt, cases-bool, false≢true, cond-true, cond-false, ltb-false, lt-ltb, le-ltb}
 use Rattle.patterns.specs.Seats.{seats as number-of-seats}
 use Rattle.patterns.specs.Patterns.{Pattern, flags, number}
 use Rattle.patterns.specs.Anys.{isMember}
@@ -28,7 +29,7 @@ use Rattle.seats.proofs.Products.{product-pos}
 use Rattle.benefits.specs.declared.benefit.Benefit.{Benefit}
 use Rattle.benefits.specs.Shares.{share}
 use Rattle.cases.specs.Book.{Book}
-use Rattle.cases.specs.Weighing.{exposureBy, exposureFor, exposuresFor, weightOf, fullOf}
+use Rattle.cases.specs.Weighing.{exposureBy, exposureFor, exposuresFor, noneCounted, isOver, weightOf, fullOf}
 
 -- ---- one exposure a seat
 pub map-long : {X Y : Type 0} (f : X → Y) (xs : List X) → length (map f xs) ≡ length xs
@@ -93,16 +94,16 @@ module _ (b : Book) (columns : Columns (b .seats)) (within : Within (present (b 
       (λ j. subst (λ (n : ℕ). 1 ≤ n) (sym (present-one (seatAt (b .seats) j .mark) (getD (seatAt (b .seats) j .counts) (b .elapsed + t) 0) (getD (seatAt (b .seats) j .counts) (b .elapsed) 0))) (within .0 j)) i
       (omega (arith, held-long, all-long))
 
+  pub held-at : (i : ℕ) → i < number-of-seats → exposureAt (kept (flags number-of-seats N) (exposuresFor b t)) i ≡ cond (isMember N i) (exposureFor (b .elapsed) t (seatAt (b .seats) i)) lost
+  held-at i q =
+      let m : i < length all = omega (arith, all-long) in
+      ap (λ (n : ℕ). exposureAt (kept (flags n N) all) i) (sym all-long) ∙ kept-at all N i _ m ∙ ap (λ (x : Exposure). cond (isMember N i) x lost) (at-seat i (inner i m))
+
   -- the loop over the seats finds them
   pub held-found : (found : List Exposure) → length found ≡ number-of-seats
       → ((i : ℕ) → i < number-of-seats → exposureAt found i ≡ cond (isMember N i) (exposureFor (b .elapsed) t (seatAt (b .seats) i)) lost)
       → found ≡ kept (flags number-of-seats N) (exposuresFor b t)
-  held-found found e h =
-      ext-getD _ found held (e ∙ sym held-long) (λ i k.
-      let q : i < number-of-seats = omega arith in
-      let m : i < length all = omega (arith, all-long) in
-      h i q
-      ∙ sym (ap (λ (n : ℕ). exposureAt (kept (flags n N) all) i) (sym all-long) ∙ kept-at all N i _ m ∙ ap (λ (x : Exposure). cond (isMember N i) x lost) (at-seat i (inner i m))))
+  held-found found e h = ext-getD _ found held (e ∙ sym held-long) (λ i k. let q : i < number-of-seats = omega arith in h i q ∙ sym (held-at i q))
 
 -- ---- the products of the present counts
 named-is : (s t : ℕ) (N : Pattern) (xs : List Seat) → productNamed N standing (map (exposureFor s t) xs) ≡ productNamed N (present s) xs
@@ -127,16 +128,71 @@ module _ (b : Book) (columns : Columns (b .seats)) (x : Benefit) (t : ℕ) where
   long : length (exposuresFor b t) ≡ number-of-seats
   long = map-long (exposureFor (b .elapsed) t) (b .seats) ∙ columns .0
 
-  pub weight-from : (W n : ℕ) (found : List Exposure) (shares : List ℕ) → W ≡ byPatterns found (λ P. getD shares (number P) 0) → found ≡ kept (flags number-of-seats n) (exposuresFor b t) → n ≡ x .named → shares ≡ x .shares .twentieths → W ≡ weightOf b x t
+  pub weight-is : byPatterns (kept (flags number-of-seats (x .named)) (exposuresFor b t)) (λ P. share x (number P)) ≡ weightOf b x t
   unfolding weightOf
-  weight-from W n found shares e p q r =
-      e ∙ (λ i. byPatterns (p i) (λ P. getD (r i) (number P) 0))
-      ∙ ap₂ (λ (m k : ℕ). byPatterns (kept (flags m k) (exposuresFor b t)) (λ P. share x (number P))) (sym long) q
+  weight-is =
+      ap (λ (m : ℕ). byPatterns (kept (flags m (x .named)) (exposuresFor b t)) (λ P. share x (number P))) (sym long)
       ∙ weight-kept (exposuresFor b t) (x .named) (share x)
 
-  pub full-from : (F n : ℕ) (found : List Exposure) → F ≡ 20 * D found → found ≡ kept (flags number-of-seats n) (exposuresFor b t) → n ≡ x .named → F ≡ fullOf b x
+  pub full-is : 20 * D (kept (flags number-of-seats (x .named)) (exposuresFor b t)) ≡ fullOf b x
   unfolding fullOf
-  full-from F n found e p q =
-      e ∙ ap (λ (xs : List Exposure). 20 * D xs) p
-      ∙ ap (λ (k : ℕ). 20 * D (kept (flags number-of-seats k) (exposuresFor b t))) q
-      ∙ ap (λ (d : ℕ). 20 * d) (D-kept (flags number-of-seats (x .named)) (exposuresFor b t) ∙ named-is (b .elapsed) t (flags number-of-seats (x .named)) (b .seats))
+  full-is = ap (λ (d : ℕ). 20 * d) (D-kept (flags number-of-seats (x .named)) (exposuresFor b t) ∙ named-is (b .elapsed) t (flags number-of-seats (x .named)) (b .seats))
+
+-- ---- a year past the last has no count
+pub late-count : (xs : List ℕ) (s t : ℕ) → length xs ≡ 121 → getD xs (s + min t 121) 0 ≡ getD xs (s + t) 0
+late-count xs s t e =
+    ⊎-elim (λ (h : t < 121). ap (λ (n : ℕ). getD xs (s + n) 0) (omega arith))
+    (λ (h : 121 ≤ t). getD-past xs (s + min t 121) 0 (omega arith) ∙ sym (getD-past xs (s + t) 0 (omega arith)))
+    (cases-lt t 121)
+
+-- ---- once no named seat is counted, nothing changes
+none-count : (xs : List Exposure) → noneCounted xs ≡ true → (i : ℕ) → exposureAt xs i .count ≡ 0
+none-count [] e i = refl
+none-count (x ∷ xs) e zero =
+    ⊎-elim (λ (q : ltb 0 (x .count) ≡ true). absurd (false≢true (sym (cond-true (ltb 0 (x .count)) false (noneCounted xs) q) ∙ e)))
+    (λ (q : ltb 0 (x .count) ≡ false). let h = ltb-false 0 (x .count) q in omega arith)
+    (cases-bool (ltb 0 (x .count)))
+none-count (x ∷ xs) e (suc i) =
+    ⊎-elim (λ (q : ltb 0 (x .count) ≡ true). absurd (false≢true (sym (cond-true (ltb 0 (x .count)) false (noneCounted xs) q) ∙ e)))
+    (λ (q : ltb 0 (x .count) ≡ false). none-count xs (sym (cond-false (ltb 0 (x .count)) false (noneCounted xs) q) ∙ e) i)
+    (cases-bool (ltb 0 (x .count)))
+
+-- a count that is 0 stays 0
+stays : (m : Mark) (a a′ r : ℕ) → a′ ≤ a → exposureBy m a r .count ≡ 0 → exposureBy m a′ r ≡ exposureBy m a r
+stays Empty a a′ r h e = refl
+stays Living a a′ r h e = ap (λ (n : ℕ). exposureBy Living n r) (omega arith)
+stays Failed a a′ r h e = refl
+
+member-stays : (m : Bool) (mark : Mark) (a a′ r : ℕ) → a′ ≤ a → cond m (exposureBy mark a r) lost .count ≡ 0 → cond m (exposureBy mark a′ r) lost ≡ cond m (exposureBy mark a r) lost
+member-stays true mark a a′ r h e = stays mark a a′ r h e
+member-stays false mark a a′ r h e = refl
+
+module _ (b : Book) (columns : Columns (b .seats)) (within : Within (present (b .elapsed)) (b .seats)) (x : Benefit) where
+  pub settled : (t u : ℕ) → t ≤ u → isOver b x t ≡ true → weightOf b x u ≡ weightOf b x t
+  settled t u h over =
+      let s = b .elapsed in
+      let N = x .named in
+      let same = ext-getD _ (kept (flags number-of-seats N) (exposuresFor b u)) (kept (flags number-of-seats N) (exposuresFor b t))
+          (held-long b columns within u N ∙ sym (held-long b columns within t N))
+          (λ i k.
+            let q : i < number-of-seats = omega (arith, held-long b columns within u N) in
+            let seat = seatAt (b .seats) i in
+            let gone = sym (ap (λ (e : Exposure). e .count) (held-at b columns within t N i q)) ∙ none-count (kept (flags number-of-seats N) (exposuresFor b t)) over i in
+            let later : getD (seat .counts) (s + u) 0 ≤ getD (seat .counts) (s + t) 0 = subst (λ (n : ℕ). getD (seat .counts) n 0 ≤ getD (seat .counts) (s + t) 0) (omega arith) (falls (seat .counts) (s + t) (u - t) (columns .2 i)) in
+            held-at b columns within u N i q
+            ∙ member-stays (isMember N i) (seat .mark) (getD (seat .counts) (s + t) 0) (getD (seat .counts) (s + u) 0) (getD (seat .counts) s 0) later gone
+            ∙ sym (held-at b columns within t N i q)) in
+      sym (weight-is b columns x u) ∙ ap (λ (xs : List Exposure). byPatterns xs (λ P. share x (number P))) same ∙ weight-is b columns x t
+
+-- ---- the loop over the exposures
+none-at : (xs : List Exposure) (i : ℕ) → i < length xs → noneCounted (drop i xs) ≡ cond (ltb 0 (exposureAt xs i .count)) false (noneCounted (drop (i + 1) xs))
+none-at xs i h = ap noneCounted (drop-more xs i _ h)
+
+pub none-next : (xs : List Exposure) (i : ℕ) → i < length xs → exposureAt xs i .count ≤ 0 → noneCounted (drop i xs) ≡ noneCounted xs → noneCounted (drop (i + 1) xs) ≡ noneCounted xs
+none-next xs i h e inv = sym (cond-false (ltb 0 (exposureAt xs i .count)) false (noneCounted (drop (i + 1) xs)) (le-ltb 0 (exposureAt xs i .count) e)) ∙ sym (none-at xs i h) ∙ inv
+
+pub some-here : (xs : List Exposure) (i : ℕ) → i < length xs → 0 < exposureAt xs i .count → noneCounted (drop i xs) ≡ noneCounted xs → false ≡ noneCounted xs
+some-here xs i h e inv = sym (cond-true (ltb 0 (exposureAt xs i .count)) false (noneCounted (drop (i + 1) xs)) (lt-ltb 0 (exposureAt xs i .count) e)) ∙ sym (none-at xs i h) ∙ inv
+
+pub none-left : (xs : List Exposure) (i : ℕ) → length xs ≤ i → noneCounted (drop i xs) ≡ noneCounted xs → true ≡ noneCounted xs
+none-left xs i h inv = sym (ap noneCounted (drop-all i xs h)) ∙ inv

@@ -1,7 +1,6 @@
 // The weight of a benefit for a year, over the seats of a case in force.
 ghost use mathlib.Core.Path.{_≡_};
 ghost use mathlib.Core.Bool.{cond};
-ghost use Prim.Native.Nat.{_≤_};
 ghost use Rattle.patterns.specs.Seats.{seats};
 ghost use Rattle.patterns.specs.Patterns.{flags};
 ghost use Rattle.patterns.specs.Anys.{isMember};
@@ -9,7 +8,7 @@ ghost use Rattle.weights.specs.Exposures.{lost};
 ghost use Rattle.weights.specs.Patterns.{kept};
 ghost use Rattle.seats.specs.Seats.{Seated, seatAt};
 ghost use Rattle.cases.specs.Views.{inForceBook};
-ghost use Rattle.cases.specs.Weighing.{exposureFor, exposuresFor, weightOf, fullOf, vacantAt, vacancy, judge-weighing as judgeWeighing, Weighed};
+ghost use Rattle.cases.specs.Weighing.{exposureFor, exposuresFor, weightOf, fullOf, isOver, vacantAt, vacancy, judge-weighing as judgeWeighing, Weighed};
 use super::InForce;
 use benefits::benefit::Benefit;
 use patterns::SEATS;
@@ -20,6 +19,9 @@ use weights::exposure::Exposure;
 use weights::exposures::Exposures;
 use weights::weight::Weight;
 
+// The years of a life: every later year has count 0.
+const YEARS: u32 = 121;
+
 const LOST: Exposure = Exposure {
     count: 0,
     present: 1,
@@ -28,8 +30,7 @@ const LOST: Exposure = Exposure {
 impl InForce {
     // A seat as the weight for a year sees it.
     fn exposure(&self, named: usize, seat: usize, year: u32) -> Exposure
-        requires seat { ⌜ Seated seat ⌝ }
-        requires year { ⌜ year ≤ 120 ⌝ }
+        requires { ⌜ Seated seat ⌝ }
         ensures { λ r. ⌜ r ≡ cond (isMember named seat) (exposureFor (now (self .entry) .elapsed) year (seatAt (now (self .entry) .table .seats) seat)) lost ⌝ }
     {
         if (named >> seat) % 2 != 1 {
@@ -37,7 +38,7 @@ impl InForce {
         }
         match self.table.mark(seat) {
             Mark::Living => Exposure {
-                count: u64::from(self.table.count(seat, self.elapsed + year)),
+                count: u64::from(self.table.count(seat, self.elapsed + year.min(YEARS))),
                 present: u64::from(self.table.count(seat, self.elapsed)),
             },
             Mark::Empty | Mark::Failed => LOST,
@@ -45,15 +46,36 @@ impl InForce {
     }
 
     // All seats as the weight for a year sees them, each that is not named as a failed one.
-    fn exposures(&self, named: usize, year: u32) -> Exposures
-        requires { ⌜ year ≤ 120 ⌝ }
-        ensures { λ r. ⌜ r .seats ≡ kept (flags seats named) (exposuresFor (inForceBook (now (self .entry))) year) ⌝ }
+    fn exposures(&self, benefit: &Benefit, year: u32) -> Exposures
+        ensures { λ r. ⌜ r .seats ≡ kept (flags seats (now (benefit .entry) .named)) (exposuresFor (inForceBook (now (self .entry))) year) ⌝ }
     {
+        let named = benefit.named();
         let mut found = [LOST; SEATS];
         for seat in 0..SEATS {
             found[seat] = self.exposure(named, seat, year);
         }
         Exposures { seats: found }
+    }
+
+    // The weight of a benefit for a year, an empty seat standing as a failed one.
+    pub fn weight(&self, benefit: &Benefit, year: u32) -> Weight
+        ensures weight { λ r. ⌜ r .weight ≡ weightOf (inForceBook (now (self .entry))) (now (benefit .entry)) year ⌝ }
+        ensures full { λ r. ⌜ r .full ≡ fullOf (inForceBook (now (self .entry))) (now (benefit .entry)) ⌝ }
+    {
+        by_patterns(&self.exposures(benefit, year), benefit.shares())
+    }
+
+    // Whether no named life is counted in a year, and so in none after it.
+    pub fn is_over(&self, benefit: &Benefit, year: u32) -> bool
+        ensures { λ r. ⌜ r ≡ isOver (inForceBook (now (self .entry))) (now (benefit .entry)) year ⌝ }
+    {
+        let exposures = self.exposures(benefit, year);
+        for seat in &exposures.seats {
+            if seat.count > 0 {
+                return false;
+            }
+        }
+        true
     }
 
     // Whether a seat is named and empty.
@@ -91,6 +113,6 @@ impl InForce {
         ensures { λ r. ⌜ Weighed r (judgeWeighing (inForceBook (now (self .entry))) (now (benefit .entry)) year) (weightOf (inForceBook (now (self .entry))) (now (benefit .entry)) year) (fullOf (inForceBook (now (self .entry))) (now (benefit .entry))) ⌝ }
     {
         self.test_weigh(benefit, year)?;
-        Ok(by_patterns(&self.exposures(benefit.named(), year), benefit.shares()))
+        Ok(self.weight(benefit, year))
     }
 }

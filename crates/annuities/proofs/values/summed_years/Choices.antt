@@ -1,12 +1,10 @@
-use Prim.Native.Nat.{_+_, _*_, _<_, _≤_}
+use Prim.Native.Nat.{_+_, _*_, _≤_}
 use mathlib.Core.Path.{_≡_}
-use Rattle.std.specs.declared.result.Result.the-variants.{Ok}
 use Rattle.patterns.specs.Patterns.{below}
 use Rattle.cases.specs.Views.{inForceBook}
-use Rattle.cases.specs.Weighing.{judge-weighing}
 use Rattle.annuities.specs.Discounts.{discount}
 use Rattle.annuities.specs.Values.{yearlyOf}
-use Rattle.annuities.proofs.values.factor.Given as given
+use Rattle.annuities.proofs.values.summed_years.Given as given
 
 abbrev pub Inv-loop-year : given.InvT-loop-year
 Inv-loop-year l =
@@ -14,4 +12,3 @@ Inv-loop-year l =
     × (l .factor ≤ l .year * 100000000)
     × (l .discount ≡ discount (l .rate) (l .year))
     × (l .discount ≤ 100000000)
-    × (0 < l .year → judge-weighing (inForceBook (l .case)) (l .benefit) 0 ≡ Ok tt)

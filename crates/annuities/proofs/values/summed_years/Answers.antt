@@ -1,0 +1,61 @@
+use mathlib.Core.Path.{_≡_, sym, _∙_, ap, ap₂}
+use Prim.Native.Nat.{ℕ, _+_, _-_, _*_, _/_, _≤_}
+use native.Mathlib.Nat.{le-trans}
+use native.Mathlib.Omega.{arith}
+use Rattle.patterns.specs.Patterns.{below}
+use Rattle.patterns.proofs.Sums.{below-none, below-next}
+use Rattle.cases.specs.Views.{inForceBook}
+use Rattle.cases.proofs.Weighings.{settled}
+use Rattle.annuities.specs.Values.{yearly, yearlyOf, factorOf}
+use Rattle.annuities.proofs.Discounting.{discount-first, discount-next}
+use Rattle.annuities.proofs.Summing.{nothing-more}
+use Rattle.annuities.proofs.values.summed_years.Needs as need
+
+pub loop-year-holds : need.loop-year-holds
+loop-year-holds c = (
+  sym (below-none (yearlyOf (inForceBook (c .args .case .now)) (c .args .benefit .now) (c .args .rate))),
+  omega arith,
+  discount-first (c .args .rate),
+  omega arith,
+)
+
+pub returns : need.returns
+unfolding factorOf
+returns c =
+    let b = inForceBook (c .args .case .now) in
+    let F = yearlyOf b (c .args .benefit .now) (c .args .rate) in
+    let e : c .loop-year .year ≡ 121 = omega arith in
+    record {
+      value = c .loop-year .inv .0 ∙ ap (λ (n : ℕ). below _+_ 0 n F) e;
+      bound = omega (arith, c .loop-year .inv .1, e);
+    }
+
+pub returns-then-is-over : need.returns-then-is-over
+unfolding factorOf
+returns-then-is-over c =
+    let me = c .args .case .now in
+    let b = inForceBook me in
+    let x = c .args .benefit .now in
+    let t = c .loop-year .year in
+    let over = sym (c .is-over .ensures) ∙ c .if-is-over .taken in
+    let none = λ (u : ℕ) (h : t ≤ u). settled b (me .columns) (me .within) x t u h over ∙ sym (c .weight-weight .ensures .weight) ∙ c .if-weight-eq0 .taken in
+    let all : t + (121 - t) ≡ 121 = omega arith in
+    record {
+      value = c .loop-year .inv .0 ∙ sym (nothing-more b x (c .args .rate) t (121 - t) none) ∙ ap (λ (n : ℕ). below _+_ 0 n (yearlyOf b x (c .args .rate))) all;
+      bound = omega (arith, c .loop-year .inv .1);
+    }
+
+pub loop-year-again : need.loop-year-again
+loop-year-again c =
+    let b = inForceBook (c .args .case .now) in
+    let x = c .args .benefit .now in
+    let i = c .args .rate in
+    let t = c .loop-year .year in
+    let w = c .weight-weight .ensures in
+    let y = c .yearly-factor .ensures .value ∙ (λ j. yearly (w .weight j) (w .full j) (c .loop-year .inv .2 j)) in
+    (
+      ap₂ _+_ (c .loop-year .inv .0) y ∙ sym (below-next (yearlyOf b x i) t),
+      omega (arith, c .loop-year .inv .1, c .yearly-factor .ensures .bound),
+      c .next-discount .ensures .value ∙ ap (λ (v : ℕ). v * 10000 / (10000 + i)) (c .loop-year .inv .2) ∙ sym (discount-next i t),
+      le-trans (c .next-discount .ensures .bound) (c .loop-year .inv .3),
+    )

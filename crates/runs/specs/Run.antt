@@ -71,7 +71,7 @@ pub data Runs : State → ℕ → ℕ → List (List ℕ) → Ran → Type 0 whe
   full : (s : State) (k room : ℕ) (line next : List ℕ) (more : List (List ℕ)) (d : Done) → Lined line s (Ok d) → room < length (spoken (d .said) k) → Runs s k room (line ∷ next ∷ more) (ran [] Full)
   -- a line is accepted, prints what it says, and the next goes on in its state
   goes-on : (s : State) (k room : ℕ) (line next : List ℕ) (more : List (List ℕ)) (d : Done) (r : Ran) → Lined line s (Ok d) → length (spoken (d .said) k) ≤ room
-    → Runs (d .state) (k + 1) (room - length (spoken (d .said) k)) (next ∷ more) r → Runs s k room (line ∷ next ∷ more) (after (spoken (d .said) k) r)
+      → Runs (d .state) (k + 1) (room - length (spoken (d .said) k)) (next ∷ more) r → Runs s k room (line ∷ next ∷ more) (after (spoken (d .said) k) r)
 
 -- the run of a file, by whether it is too long
 abbrev pub ByLength : Bool → List ℕ → ℕ → Ran → Type 0

@@ -6,9 +6,9 @@ ghost use Rattle.runs.specs.Run.{FileRuns, ran, code};
 use outcome::Outcome;
 use writing::output::Output;
 
-mod told;
 pub mod outcome;
 mod printing;
+mod told;
 
 // Runs a file, and writes what it prints.
 pub fn run(file: &[u8], out: &mut [u8]) -> Outcome

@@ -8,7 +8,6 @@ ghost use Rattle.schemes.specs.Most.{most};
 // A table's number, and more counts than a life has.
 const MOST: usize = 123;
 
-
 #[derive(Drop)]
 pub(crate) struct Numbers {
     items: [u32; MOST],

@@ -2,6 +2,7 @@
 
 // The byte of a life by a table of counts, and of one that falls by the same step each year.
 pub const LISTED: u32 = b'a' as u32;
+
 pub const STEPPED: u32 = b'm' as u32;
 
 #[derive(Clone, Copy)]

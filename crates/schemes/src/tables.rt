@@ -34,7 +34,9 @@ impl Tables {
             counts: [0; YEARS],
             len: 0,
         };
-        Tables { tables: [table; TABLES] }
+        Tables {
+            tables: [table; TABLES],
+        }
     }
 
     // A table, and an empty one past the last.

@@ -23,7 +23,7 @@ use Rattle.schemes.specs.Faults.{of-benefit}
 use Rattle.schemes.specs.Syntax.{one, none, by-read, amount, clauses-text, clauses-place}
 use Rattle.schemes.specs.Enrolment.{call, at-begin, joined}
 use Rattle.schemes.specs.Counts.{appended}
-use Rattle.sessions.specs.State.{State}
+use Rattle.sessions.specs.State.{State, with-book}
 
 -- T, L, W, F belong to enrolling, X, Y, B, E to in force, R to both
 abbrev pub belongs : Kind → Phase → Bool
@@ -55,7 +55,7 @@ quiet s = record { state = s; said = None }
 
 -- a line that changes the book, the tables or the rate alone
 abbrev pub on-book : State → Result Book Fault → Result Done Fault
-on-book s (Ok b) = Ok (quiet (record { book = b; tables = s .tables; rate = s .rate }))
+on-book s (Ok b) = Ok (quiet (with-book b s))
 on-book s (Err e) = Err e
 
 abbrev pub on-tables : State → Result (List (List ℕ)) Fault → Result Done Fault

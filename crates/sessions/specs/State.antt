@@ -11,10 +11,10 @@ use Rattle.sessions.specs.declared.session.Phase.{Phase}
 use Rattle.sessions.specs.declared.session.Phase.the-variants.{Enrolling, InForce}
 use Rattle.sessions.specs.declared.session.Session.{Session}
 
--- the book of the case that is enrolling or in force
-abbrev pub book-of : Phase → Book
-book-of (Enrolling e) = enrollingBook e
-book-of (InForce f) = inForceBook f
+-- the book of the case that the phase speaks of
+abbrev pub book-of : Phase → Book → Book → Book
+book-of Enrolling enrolling inforce = enrolling
+book-of InForce enrolling inforce = inforce
 
 -- the book, the counts of each table, and the rate
 pub record State : Type 0 where
@@ -23,8 +23,12 @@ pub record State : Type 0 where
   pub rate : ℕ
 
 abbrev pub state-of : Session → State
-state-of s = record { book = book-of (s .phase); tables = lists (s .tables .tables); rate = s .rate }
+state-of s = record { book = book-of (s .phase) (enrollingBook (s .enrolling)) (inForceBook (s .inforce)); tables = lists (s .tables .tables); rate = s .rate }
 
 -- a session before its first line
 abbrev pub beginning : State
 beginning = record { book = cases.beginning; tables = replicate tableCount []; rate = 0 }
+
+-- the state with another book
+abbrev pub with-book : Book → State → State
+with-book b s = record { book = b; tables = s .tables; rate = s .rate }

@@ -6,16 +6,18 @@ use schemes::tables::Tables;
 mod calls;
 mod machine;
 
-// The phase of the file, with its case.
-#[derive(Drop)]
+// The phase of the file: which of the two cases its lines speak of.
+#[derive(Clone, Copy)]
 pub enum Phase {
-    Enrolling(Enrolling),
-    InForce(InForce),
+    Enrolling,
+    InForce,
 }
 
 #[derive(Drop)]
 pub struct Session {
     phase: Phase,
+    enrolling: Enrolling,
+    inforce: InForce,
     tables: Tables,
     rate: u32,
 }

@@ -1,7 +1,9 @@
 // What a session does at a line.
 ghost use mathlib.Core.Path.{_≡_};
 ghost use Rattle.std.specs.Results.{Cases};
-ghost use Rattle.sessions.specs.State.{beginning, state-of as stateOf};
+ghost use Rattle.cases.specs.Book.{step, start, beginning as newCase};
+ghost use Rattle.cases.specs.Views.{enrollingBook};
+ghost use Rattle.sessions.specs.State.{beginning, state-of as stateOf, with-book as inPhase};
 ghost use Rattle.sessions.specs.Machine.{Acts, Lined, done-by as doneBy, Kept};
 use super::Phase;
 use super::Session;
@@ -26,10 +28,31 @@ impl Session {
         ensures { λ r. ⌜ stateOf r ≡ beginning ⌝ }
     {
         Session {
-            phase: Phase::Enrolling(Enrolling::open()),
+            phase: Phase::Enrolling,
+            enrolling: Enrolling::open(),
+            inforce: Enrolling::open().start(),
             tables: Tables::new(),
             rate: 0,
         }
+    }
+
+    // The case that is enrolling goes in force.
+    fn start(&mut self)
+        ensures { λ _. ⌜ stateOf (now (self .exit)) ≡ inPhase (step start (enrollingBook (now (self .entry) .enrolling))) (stateOf (now (self .entry))) ⌝ }
+    {
+        let case = mem::replace(&mut self.enrolling, Enrolling::open());
+        self.inforce = case.start();
+        self.phase = Phase::InForce;
+    }
+
+    // The case in force ends, and a new one is enrolling.
+    fn close(&mut self)
+        ensures { λ _. ⌜ stateOf (now (self .exit)) ≡ inPhase newCase (stateOf (now (self .entry))) ⌝ }
+    {
+        let case = mem::replace(&mut self.inforce, Enrolling::open().start());
+        let _ = case.close();
+        self.enrolling = Enrolling::open();
+        self.phase = Phase::Enrolling;
     }
 
     // The phase and the line's kind together decide what is done, where the session is.
@@ -37,71 +60,46 @@ impl Session {
         ensures acts { λ r. ⌜ Acts kind (now (rest .entry)) (stateOf (now (self .entry))) (doneBy r (stateOf (now (self .exit)))) ⌝ }
         ensures kept { λ r. ⌜ Kept r (stateOf (now (self .exit))) (stateOf (now (self .entry))) ⌝ }
     {
-        let blank = Phase::Enrolling(Enrolling::open());
-        match (mem::replace(&mut self.phase, blank), kind) {
-            (phase, Kind::Rate) => {
-                self.phase = phase;
+        match (self.phase, kind) {
+            (_, Kind::Rate) => {
                 self.rate = only_number(kind, rest)?;
                 Ok(None)
             }
-            (Phase::Enrolling(case), Kind::Table) => {
-                self.phase = Phase::Enrolling(case);
+            (Phase::Enrolling, Kind::Table) => {
                 self.tables.extend(rest)?;
                 Ok(None)
             }
-            (Phase::Enrolling(mut case), Kind::Life) => {
-                let answer = enrol(&mut case, &self.tables, rest);
-                self.phase = Phase::Enrolling(case);
-                answer?;
+            (Phase::Enrolling, Kind::Life) => {
+                enrol(&mut self.enrolling, &self.tables, rest)?;
                 Ok(None)
             }
-            (Phase::Enrolling(mut case), Kind::Withdraw) => {
-                let answer = withdraw(&mut case, rest);
-                self.phase = Phase::Enrolling(case);
-                answer?;
+            (Phase::Enrolling, Kind::Withdraw) => {
+                withdraw(&mut self.enrolling, rest)?;
                 Ok(None)
             }
-            (Phase::Enrolling(case), Kind::Start) => match no_number(kind, rest) {
-                Ok(()) => {
-                    self.phase = Phase::InForce(case.start());
-                    Ok(None)
-                }
-                Err(fault) => {
-                    self.phase = Phase::Enrolling(case);
-                    Err(fault)
-                }
-            },
-            (Phase::InForce(mut case), Kind::Fail) => {
-                let answer = fail(&mut case, rest);
-                self.phase = Phase::InForce(case);
-                answer?;
+            (Phase::Enrolling, Kind::Start) => {
+                no_number(kind, rest)?;
+                self.start();
                 Ok(None)
             }
-            (Phase::InForce(mut case), Kind::YearEnd) => {
-                let answer = year_end(&mut case, rest);
-                self.phase = Phase::InForce(case);
-                answer?;
+            (Phase::InForce, Kind::Fail) => {
+                fail(&mut self.inforce, rest)?;
                 Ok(None)
             }
-            (Phase::InForce(case), Kind::Benefit) => {
-                let answer = price(&case, rest, self.rate);
-                self.phase = Phase::InForce(case);
-                Ok(Some(answer?))
+            (Phase::InForce, Kind::YearEnd) => {
+                year_end(&mut self.inforce, rest)?;
+                Ok(None)
             }
-            (Phase::InForce(case), Kind::Close) => match no_number(kind, rest) {
-                Ok(()) => {
-                    let _ = case.close();
-                    Ok(None)
-                }
-                Err(fault) => {
-                    self.phase = Phase::InForce(case);
-                    Err(fault)
-                }
-            },
-            (phase, _) => {
-                self.phase = phase;
-                Err(Fault::At(0, Refusal::Phase))
+            (Phase::InForce, Kind::Benefit) => {
+                let valuation = price(&self.inforce, rest, self.rate)?;
+                Ok(Some(valuation))
             }
+            (Phase::InForce, Kind::Close) => {
+                no_number(kind, rest)?;
+                self.close();
+                Ok(None)
+            }
+            _ => Err(Fault::At(0, Refusal::Phase)),
         }
     }
 

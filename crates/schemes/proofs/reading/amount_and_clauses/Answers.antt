@@ -16,8 +16,7 @@ returns-in-Break-amount c =
 pub returns : need.returns
 returns c =
     let f = c .cut .result .0 .now in
-    let a = c .cut .result .1 .now in
-    (
+    let a = c .cut .result .1 .now in (
       amount-is (c .args .rest .now) f a (c .cut .ensures .parts) (omega (arith, ltb-true, ltb-false)) ∙ sym (c .in-Continue-amount .ensures tt),
       sym (ap (λ fs. length (first-field fs) + 3) (c .cut .ensures .parts)),
       clauses-is (c .args .rest .now) f a _ (c .cut .ensures .parts) (c .cut .ensures .left) refl,

@@ -173,15 +173,15 @@ module _ (b : Book) (columns : Columns (b .seats)) (within : Within (present (b 
       let s = b .elapsed in
       let N = x .named in
       let same = ext-getD _ (kept (flags number-of-seats N) (exposuresFor b u)) (kept (flags number-of-seats N) (exposuresFor b t))
-          (held-long b columns within u N ∙ sym (held-long b columns within t N))
-          (λ i k.
-            let q : i < number-of-seats = omega (arith, held-long b columns within u N) in
-            let seat = seatAt (b .seats) i in
-            let gone = sym (ap (λ (e : Exposure). e .count) (held-at b columns within t N i q)) ∙ none-count (kept (flags number-of-seats N) (exposuresFor b t)) over i in
-            let later : getD (seat .counts) (s + u) 0 ≤ getD (seat .counts) (s + t) 0 = subst (λ (n : ℕ). getD (seat .counts) n 0 ≤ getD (seat .counts) (s + t) 0) (omega arith) (falls (seat .counts) (s + t) (u - t) (columns .2 i)) in
-            held-at b columns within u N i q
-            ∙ member-stays (isMember N i) (seat .mark) (getD (seat .counts) (s + t) 0) (getD (seat .counts) (s + u) 0) (getD (seat .counts) s 0) later gone
-            ∙ sym (held-at b columns within t N i q)) in
+      (held-long b columns within u N ∙ sym (held-long b columns within t N))
+      (λ i k.
+      let q : i < number-of-seats = omega (arith, held-long b columns within u N) in
+      let seat = seatAt (b .seats) i in
+      let gone = sym (ap (λ (e : Exposure). e .count) (held-at b columns within t N i q)) ∙ none-count (kept (flags number-of-seats N) (exposuresFor b t)) over i in
+      let later : getD (seat .counts) (s + u) 0 ≤ getD (seat .counts) (s + t) 0 = subst (λ (n : ℕ). getD (seat .counts) n 0 ≤ getD (seat .counts) (s + t) 0) (omega arith) (falls (seat .counts) (s + t) (u - t) (columns .2 i)) in
+      held-at b columns within u N i q
+      ∙ member-stays (isMember N i) (seat .mark) (getD (seat .counts) (s + t) 0) (getD (seat .counts) (s + u) 0) (getD (seat .counts) s 0) later gone
+      ∙ sym (held-at b columns within t N i q)) in
       sym (weight-is b columns x u) ∙ ap (λ (xs : List Exposure). byPatterns xs (λ P. share x (number P))) same ∙ weight-is b columns x t
 
 -- ---- the loop over the exposures

@@ -1,6 +1,7 @@
 // Reads an expression by operator precedence, over two stacks in lent memory.
 mod answers;
 mod cut;
+mod ends;
 mod groups;
 mod reads;
 mod spends;

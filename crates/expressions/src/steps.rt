@@ -5,8 +5,8 @@ ghost use lib.Bits.{bitOr};
 ghost use lib.ListN.{length};
 ghost use Rattle.stacks.specs.Items.{room, rest};
 ghost use Rattle.expressions.specs.Grammar.{Tree, factor, term};
-ghost use Rattle.expressions.specs.Layout.{wordsIn, masksIn, Kept, Fits, completeWords, completeMasks, top, isNil};
-ghost use Rattle.expressions.specs.Moves.{Took, Same, Finished};
+ghost use Rattle.expressions.specs.Layout.{wordsIn, masksIn, Kept, Fits, completeWords, completeMasks, top};
+ghost use Rattle.expressions.specs.Moves.{Took, Same};
 ghost use Rattle.tokens.specs.Letters.{seatsOf};
 ghost use Rattle.expressions.specs.Open.{Open as OpenPart};
 ghost use Rattle.expressions.specs.States.{operand as operandState, operator as operatorState, digit as digitState, square as squareState, letters as lettersState, closing as closingState, counted, State};
@@ -14,7 +14,6 @@ use crate::Count;
 use crate::Expect;
 use crate::Group;
 use crate::Reader;
-use crate::Reading;
 use crate::Word;
 use crate::groups::group_mask;
 use refusals::Refusal;
@@ -218,44 +217,6 @@ impl Reader<'_, '_> {
             Expect::Square(group) => self.square(group, token),
             Expect::Letters(group) => self.letters(group, token),
             Expect::Closing(group, set) => self.closing(group, set, token),
-        }
-    }
-
-    // Whether no word waits.
-    fn is_spent(&self) -> bool
-        ensures { λ r. ⌜ r ≡ isNil (wordsIn (now (self .entry))) ⌝ }
-    {
-        match self.pending.top() {
-            Some(_) => false,
-            None => true,
-        }
-    }
-
-    // The end of the text, at the place `end`.
-    pub(crate) fn finish(&mut self, end: usize) -> Result<Reading, TokenFault>
-        requires { ⌜ 0 < room (now self .answers) ⌝ }
-        ensures { λ r. ⌜ ((s : State) → Fits s (now (self .entry)) → Finished r s end (now (self .entry) .named)) ⌝ }
-    {
-        match self.expect {
-            Expect::Operator => {
-                self.join();
-                if self.is_spent() {
-                    let answers = self.answers.top().unwrap_or(0);
-                    Ok(Reading {
-                        answers,
-                        named: self.named,
-                    })
-                } else {
-                    Err(TokenFault {
-                        refusal: Refusal::Grammar,
-                        place: end,
-                    })
-                }
-            }
-            _ => Err(TokenFault {
-                refusal: Refusal::Grammar,
-                place: end,
-            }),
         }
     }
 }

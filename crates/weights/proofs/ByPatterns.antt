@@ -1,20 +1,19 @@
 -- The sum over all patterns, one seat after another.
 use mathlib.Core.Path.{_≡_, refl, sym, ap, ap₂, _∙_, subst}
 use mathlib.Core.Bool.{Bool, true, false}
-use mathlib.Core.List.{List, [], _∷_}
+use mathlib.Core.List.{List, [], _∷_, _++_}
 use Prim.Native.Nat.{ℕ, zero, suc, _+_, _-_, _*_, _/_, _^_, _≤_, _<_}
 use native.Mathlib.Omega.{arith}
 use native.Mathlib.Nat as NatL
 use native.Mathlib.Nat.{mul-left-comm}
 use native.Mathlib.Numerals.{add-one}
-use lib.ListN.{length, getD, drop}
-use lib.Seq.{drop-cons}
+use lib.ListN.{length, getD, take}
+use Rattle.std.proofs.shelf.Lists.{take-more, take-all, length-push}
 use Rattle.patterns.specs.Patterns.{Pattern, all, number}
 use Rattle.patterns.proofs.Sums.{all-same, all-scale, all-two, add4}
 use Rattle.weights.specs.declared.exposure.Exposure.{Exposure}
 use Rattle.weights.specs.Exposures.{counted, gone, seatAt, Sound, Present, D}
-use Rattle.weights.specs.Patterns.{times, byPatterns}
-use Rattle.weights.proofs.SumOut.{pair}
+use Rattle.weights.specs.Patterns.{times, byPatterns, pair}
 
 -- ---- patterns of a known length
 pub number-below : (P : Pattern) (n : ℕ) → length P ≡ n → number P < 2 ^ n
@@ -36,21 +35,59 @@ patterns-cons x xs f =
     (all-same _+_ (length xs) _ _ (λ P. mul-left-comm (f (false ∷ P)) (gone x) (times counted gone xs P)) ∙ all-scale (length xs) (gone x) (λ P. f (false ∷ P) * times counted gone xs P))
     (all-same _+_ (length xs) _ _ (λ P. mul-left-comm (f (true ∷ P)) (x .count) (times counted gone xs P)) ∙ all-scale (length xs) (x .count) (λ P. f (true ∷ P) * times counted gone xs P))
 
+none-left : (f : Pattern → ℕ) → byPatterns [] f ≡ f []
+unfolding byPatterns all times
+none-left f = omega arith
+
+ring : (g c h d s t u v : ℕ) → g * (h * s + d * t) + c * (h * u + d * v) ≡ h * (g * s + c * u) + d * (g * t + c * v)
+ring g c h d s t u v = omega arith
+
+-- the last seat apart
+patterns-last : (xs : List Exposure) (x : Exposure) (f : Pattern → ℕ)
+    → byPatterns (xs ++ (x ∷ [])) f ≡ gone x * byPatterns xs (λ P. f (P ++ (false ∷ []))) + x .count * byPatterns xs (λ P. f (P ++ (true ∷ [])))
+patterns-last [] x f =
+    patterns-cons x [] f
+    ∙ ap₂ (λ (a b : ℕ). gone x * a + x .count * b)
+    (none-left (λ P. f (false ∷ P)) ∙ sym (none-left (λ P. f (P ++ (false ∷ [])))))
+    (none-left (λ P. f (true ∷ P)) ∙ sym (none-left (λ P. f (P ++ (true ∷ [])))))
+patterns-last (y ∷ ys) x f =
+    patterns-cons y (ys ++ (x ∷ [])) f
+    ∙ ap₂ (λ (a b : ℕ). gone y * a + y .count * b) (patterns-last ys x (λ P. f (false ∷ P))) (patterns-last ys x (λ P. f (true ∷ P)))
+    ∙ ring (gone y) (y .count) (gone x) (x .count) _ _ _ _
+    ∙ sym (ap₂ (λ (a b : ℕ). gone x * a + x .count * b) (patterns-cons y ys (λ P. f (P ++ (false ∷ [])))) (patterns-cons y ys (λ P. f (P ++ (true ∷ [])))))
+
+number-out : (P : Pattern) → number (P ++ (false ∷ [])) ≡ number P
+unfolding number
+number-out [] = refl
+number-out (true ∷ P) = ap (λ (n : ℕ). n * 2 + 1) (number-out P)
+number-out (false ∷ P) = ap (λ (n : ℕ). n * 2) (number-out P)
+
+number-in : (P : Pattern) → number (P ++ (true ∷ [])) ≡ number P + 2 ^ length P
+unfolding number
+number-in [] = refl
+number-in (true ∷ P) = ap (λ (n : ℕ). n * 2 + 1) (number-in P) ∙ omega (arith, NatL.pow-suc 2 (length P))
+number-in (false ∷ P) = ap (λ (n : ℕ). n * 2) (number-in P) ∙ omega (arith, NatL.pow-suc 2 (length P))
+
 both : (g a c b t : ℕ) → (g * a + c * b) * t ≡ g * (a * t) + c * (b * t)
 both g a c b t = omega arith
 
-summed : (x : Exposure) (xs : List Exposure) (before after : List ℕ) → ((p : ℕ) → p < 2 ^ length xs → getD after p 0 ≡ pair x before p)
-    → byPatterns xs (λ P. getD after (number P) 0) ≡ byPatterns (x ∷ xs) (λ P. getD before (number P) 0)
-unfolding byPatterns number
-summed x xs before after h =
+summed : (xs : List Exposure) (x : Exposure) (before after : List ℕ) → ((p : ℕ) → p < 2 ^ length xs → getD after p 0 ≡ pair x (2 ^ length xs) before p)
+    → byPatterns xs (λ P. getD after (number P) 0) ≡ byPatterns (xs ++ (x ∷ [])) (λ P. getD before (number P) 0)
+unfolding byPatterns
+summed xs x before after h =
     let n = length xs in
-    let low = λ (P : Pattern). getD before (number P * 2) 0 * times counted gone xs P in
-    let high = λ (P : Pattern). getD before (number P * 2 + 1) 0 * times counted gone xs P in
+    let low = λ (P : Pattern). getD before (number (P ++ (false ∷ []))) 0 * times counted gone xs P in
+    let high = λ (P : Pattern). getD before (number (P ++ (true ∷ []))) 0 * times counted gone xs P in
     all-long n _ (λ P. gone x * low P + x .count * high P)
-    (λ P e. ap (λ (k : ℕ). k * times counted gone xs P) (h (number P) (number-below P n e)) ∙ both (gone x) (getD before (number P * 2) 0) (x .count) (getD before (number P * 2 + 1) 0) (times counted gone xs P))
+    (λ P e.
+    ap (λ (k : ℕ). k * times counted gone xs P) (
+    h (number P) (number-below P n e)
+    ∙ ap₂ (λ (a b : ℕ). gone x * getD before a 0 + x .count * getD before b 0) (sym (number-out P)) (ap (λ (m : ℕ). number P + 2 ^ m) (sym e) ∙ sym (number-in P))
+    )
+    ∙ both (gone x) (getD before (number (P ++ (false ∷ []))) 0) (x .count) (getD before (number (P ++ (true ∷ []))) 0) (times counted gone xs P))
     ∙ all-two _+_ add4 n (λ P. gone x * low P) (λ P. x .count * high P)
     ∙ ap₂ _+_ (all-scale n (gone x) low) (all-scale n (x .count) high)
-    ∙ sym (patterns-cons x xs (λ P. getD before (number P) 0))
+    ∙ sym (patterns-last xs x (λ P. getD before (number P) 0))
 
 -- ---- the product of the present counts
 pub D-pos : (xs : List Exposure) → Present xs → 1 ≤ D xs
@@ -58,25 +95,24 @@ unfolding D
 D-pos [] h = omega arith
 D-pos (x ∷ xs) h = NatL.one-le-mul (h 0 (omega arith)) (D-pos xs (λ i q. h (suc i) (omega arith)))
 
-D-cons : (x : Exposure) (xs : List Exposure) → D (x ∷ xs) ≡ x .present * D xs
+D-last : (xs : List Exposure) (x : Exposure) → D (xs ++ (x ∷ [])) ≡ x .present * D xs
 unfolding D
-D-cons x xs = refl
+D-last [] x = refl
+D-last (y ∷ ys) x = ap (λ (d : ℕ). y .present * d) (D-last ys x) ∙ mul-left-comm (y .present) (x .present) (D ys)
 
-present-drop : (xs : List Exposure) (i : ℕ) → Present xs → Present (drop i xs)
-present-drop xs zero h = h
-present-drop [] (suc i) h = h
-present-drop (x ∷ xs) (suc i) h = present-drop xs i (λ k q. h (suc k) (omega arith))
+take-pos : (xs : List Exposure) (i : ℕ) → Present xs → 1 ≤ D (take i xs)
+unfolding D
+take-pos xs zero h = omega arith
+take-pos [] (suc i) h = omega arith
+take-pos (x ∷ xs) (suc i) h = NatL.one-le-mul (h 0 (omega arith)) (take-pos xs i (λ k q. h (suc k) (omega arith)))
 
--- ---- before the turn of seat i: the sums are those of the patterns of the seats left, and full is twenty times the product of the present counts summed out
+-- ---- with i seats left: the sums are those of their patterns, and full is twenty times the product of the present counts summed out
 pub record Left (xs : List Exposure) (shares : List ℕ) (i left : ℕ) (sums : List ℕ) (full : ℕ) : Type 0 where
-  pub power : left ≡ 2 ^ length (drop i xs)
+  pub power : left ≡ 2 ^ length (take i xs)
   pub room : left ≤ length sums
-  pub value : byPatterns (drop i xs) (λ P. getD sums (number P) 0) ≡ byPatterns xs (λ P. getD shares (number P) 0)
+  pub value : byPatterns (take i xs) (λ P. getD sums (number P) 0) ≡ byPatterns xs (λ P. getD shares (number P) 0)
   pub bound : (p : ℕ) → p < left → getD sums p 0 ≤ full
-  pub product : full * D (drop i xs) ≡ 20 * D xs
-
-pub left-first : (xs : List Exposure) (shares : List ℕ) → length shares ≡ 2 ^ length xs → ((p : ℕ) → getD shares p 0 ≤ 20) → Left xs shares 0 (length shares) shares 20
-left-first xs shares e h = record { power = e; room = omega arith; value = refl; bound = λ p q. h p; product = refl }
+  pub product : full * D (take i xs) ≡ 20 * D xs
 
 half : (n : ℕ) → 2 ^ suc n / 2 ≡ 2 ^ n
 half n = omega (arith, NatL.pow-suc 2 n)
@@ -84,28 +120,31 @@ half n = omega (arith, NatL.pow-suc 2 n)
 within-pair : (g c r s t m : ℕ) → g + c ≡ r → s ≤ m → t ≤ m → g * s + c * t ≤ m * r
 within-pair g c r s t m e p q = omega (arith, NatL.mul-le-mul-left g p, NatL.mul-le-mul-left c q, ap (λ (k : ℕ). k * m) e)
 
-module _ {xs : List Exposure} {shares : List ℕ} {i left : ℕ} {sums : List ℕ} {full : ℕ} (l : Left xs shares i left sums full) (h : i < length xs) where
+module _ {xs : List Exposure} {shares : List ℕ} {i left : ℕ} {sums : List ℕ} {full : ℕ} (l : Left xs shares (i + 1) left sums full) (h : i < length xs) where
   abbrev here : Exposure
   here = seatAt xs i
 
   abbrev rest : List Exposure
-  rest = drop (suc i) xs
+  rest = take i xs
 
-  split : drop i xs ≡ here ∷ rest
-  split = drop-cons xs i _ h
+  split : take (i + 1) xs ≡ rest ++ (here ∷ [])
+  split = take-more xs i _ h
+
+  power-is : left ≡ 2 ^ suc (length rest)
+  power-is = l .power ∙ ap (λ (ys : List Exposure). 2 ^ length ys) split ∙ ap (λ (n : ℕ). 2 ^ n) (length-push rest here ∙ add-one (length rest))
 
   half-is : left / 2 ≡ 2 ^ length rest
-  half-is = ap (λ (k : ℕ). k / 2) (l .power ∙ ap (λ (ys : List Exposure). 2 ^ length ys) split) ∙ half (length rest)
+  half-is = ap (λ (k : ℕ). k / 2) power-is ∙ half (length rest)
 
   twice : left / 2 * 2 ≡ left
-  twice = let e : left ≡ 2 ^ suc (length rest) = l .power ∙ ap (λ (ys : List Exposure). 2 ^ length ys) split in omega (arith, e, half-is, NatL.pow-suc 2 (length rest))
+  twice = omega (arith, power-is, half-is, NatL.pow-suc 2 (length rest))
 
   product-next : full * here .present * D rest ≡ 20 * D xs
-  product-next = NatL.mul-assoc full (here .present) (D rest) ∙ sym (ap (λ (d : ℕ). full * d) (ap D split ∙ D-cons here rest)) ∙ l .product
+  product-next = NatL.mul-assoc full (here .present) (D rest) ∙ sym (ap (λ (d : ℕ). full * d) (ap D split ∙ D-last rest here)) ∙ l .product
 
   -- how large the next full can be
   pub full-small : Present xs → full * seatAt xs i .present ≤ 20 * D xs
-  full-small ps = omega (arith, product-next, NatL.mul-le-mul-left (full * here .present) (D-pos rest (present-drop xs (suc i) ps)))
+  full-small ps = omega (arith, product-next, NatL.mul-le-mul-left (full * here .present) (take-pos xs i ps))
 
   pub pairs-fit : left / 2 * 2 ≤ length sums
   pairs-fit = omega (arith, twice, l .room)
@@ -113,23 +152,26 @@ module _ {xs : List Exposure} {shares : List ℕ} {i left : ℕ} {sums : List �
   pub small : Present xs → (p : ℕ) → p < left / 2 * 2 → getD sums p 0 * seatAt xs i .present ≤ 20 * D xs
   small ps p q = NatL.le-trans (NatL.mul-le-mul-right (here .present) (l .bound p (omega (arith, twice)))) (full-small ps)
 
-  pub left-next : Sound xs → (after : List ℕ) → length after ≡ length sums → ((p : ℕ) → p < left / 2 → getD after p 0 ≡ pair (seatAt xs i) sums p)
-      → Left xs shares (i + 1) (left / 2) after (full * seatAt xs i .present)
-  left-next s after long e = rw add-one (record {
+  pub left-next : Sound xs → (after : List ℕ) → length after ≡ length sums → ((p : ℕ) → p < left / 2 → getD after p 0 ≡ pair (seatAt xs i) (left / 2) sums p)
+      → Left xs shares i (left / 2) after (full * seatAt xs i .present)
+  left-next s after long e = record {
     power = half-is;
     room = omega (arith, pairs-fit);
-    value = summed here rest sums after (λ p q. e p (subst (λ (k : ℕ). p < k) (sym half-is) q)) ∙ sym (ap (λ (ys : List Exposure). byPatterns ys (λ P. getD sums (number P) 0)) split) ∙ l .value;
-    bound = λ p q. NatL.le-trans (NatL.le-of-eq (e p q)) (within-pair (gone here) (here .count) (here .present) _ _ full (let k = s i in omega arith) (l .bound (p * 2) (omega (arith, twice))) (l .bound (p * 2 + 1) (omega (arith, twice))));
+    value = summed rest here sums after (λ p q. e p (subst (λ (k : ℕ). p < k) (sym half-is) q) ∙ ap (λ (k : ℕ). pair here k sums p) half-is) ∙ sym (ap (λ (ys : List Exposure). byPatterns ys (λ P. getD sums (number P) 0)) split) ∙ l .value;
+    bound = λ p q. NatL.le-trans (NatL.le-of-eq (e p q)) (within-pair (gone here) (here .count) (here .present) _ _ full (let k = s i in omega arith) (l .bound p (omega (arith, twice))) (l .bound (p + left / 2) (omega (arith, twice))));
     product = product-next;
-  })
+  }
 
-drop-all : (xs : List Exposure) → drop (length xs) xs ≡ []
-drop-all [] = refl
-drop-all (x ∷ xs) = drop-all xs
-
-none-left : (f : Pattern → ℕ) → byPatterns [] f ≡ f []
-unfolding byPatterns all times
-none-left f = omega arith
+pub left-first : (xs : List Exposure) (shares : List ℕ) (i : ℕ) → length xs ≤ i → length shares ≡ 2 ^ length xs → ((p : ℕ) → getD shares p 0 ≤ 20) → Left xs shares i (length shares) shares 20
+left-first xs shares i q e h =
+    let all = sym (take-all i xs q) in
+    record {
+      power = e ∙ ap (λ (ys : List Exposure). 2 ^ length ys) all;
+      room = omega arith;
+      value = sym (ap (λ (ys : List Exposure). byPatterns ys (λ P. getD shares (number P) 0)) all);
+      bound = λ p r. h p;
+      product = sym (ap (λ (ys : List Exposure). 20 * D ys) all);
+    }
 
 D-none : D [] ≡ 1
 unfolding D
@@ -140,13 +182,12 @@ pub record Done (xs : List Exposure) (shares : List ℕ) (weight full : ℕ) : T
   pub product : full ≡ 20 * D xs
   pub part : weight ≤ full
 
-pub all-done : {xs : List Exposure} {shares : List ℕ} {i left : ℕ} {sums : List ℕ} {full : ℕ} → Left xs shares i left sums full → i ≡ length xs → Done xs shares (getD sums 0 0) full
+pub all-done : {xs : List Exposure} {shares : List ℕ} {left : ℕ} {sums : List ℕ} {full : ℕ} → Left xs shares 0 left sums full → Done xs shares (getD sums 0 0) full
 unfolding number
-all-done {xs} {shares} {i} {left} {sums} {full} l e =
-    let gone : drop i xs ≡ [] = ap (λ (k : ℕ). drop k xs) e ∙ drop-all xs in
-    let one : left ≡ 1 = l .power ∙ ap (λ (ys : List Exposure). 2 ^ length ys) gone in
+all-done {xs} {shares} {left} {sums} {full} l =
+    let one : left ≡ 1 = l .power in
     record {
-      value = sym (none-left (λ P. getD sums (number P) 0)) ∙ sym (ap (λ (ys : List Exposure). byPatterns ys (λ P. getD sums (number P) 0)) gone) ∙ l .value;
-      product = sym (NatL.mul-one full) ∙ sym (ap (λ (d : ℕ). full * d) (ap D gone ∙ D-none)) ∙ l .product;
+      value = sym (none-left (λ P. getD sums (number P) 0)) ∙ l .value;
+      product = sym (NatL.mul-one full) ∙ sym (ap (λ (d : ℕ). full * d) D-none) ∙ l .product;
       part = l .bound 0 (omega (arith, one));
     }

@@ -1,5 +1,5 @@
 -- The loop that sums out one seat, in place: what is done, and what is still as it was.
-use mathlib.Core.Path.{_≡_, sym, ap, ap₂, _∙_}
+use mathlib.Core.Path.{_≡_, ap₂, _∙_}
 use mathlib.Core.Logic.{_≢_}
 use mathlib.Core.List.{List}
 use Prim.Native.Nat.{ℕ, _+_, _*_, _≤_, _<_}
@@ -10,26 +10,20 @@ use lib.ListN.{length, getD, set, length-set}
 use lib.Seq.{getD-set-same, getD-set-other}
 use Rattle.weights.specs.declared.exposure.Exposure.{Exposure}
 use Rattle.weights.specs.Exposures.{gone}
-
--- the two patterns that differ in the seat alone, weighed
-abbrev pub pair : Exposure → List ℕ → ℕ → ℕ
-pair x sums p = gone x * getD sums (p * 2) 0 + x .count * getD sums (p * 2 + 1) 0
+use Rattle.weights.specs.Patterns.{pair}
 
 -- before the turn of the number i
-pub record Summing (x : Exposure) (before : List ℕ) (i : ℕ) (sums : List ℕ) : Type 0 where
+pub record Summing (x : Exposure) (others : ℕ) (before : List ℕ) (i : ℕ) (sums : List ℕ) : Type 0 where
   pub long : length sums ≡ length before
-  pub done : (k : ℕ) → k < i → getD sums k 0 ≡ pair x before k
+  pub done : (k : ℕ) → k < i → getD sums k 0 ≡ pair x others before k
   pub rest : (k : ℕ) → i ≤ k → getD sums k 0 ≡ getD before k 0
 
-pub begin-sums : (x : Exposure) (before : List ℕ) → Summing x before 0 before
-begin-sums x before = record { long = λ _. length before; done = λ k h. absurd (omega arith); rest = λ k h _. getD before k 0 }
-
-module _ {x : Exposure} {before : List ℕ} {i : ℕ} {sums : List ℕ} (s : Summing x before i sums) where
+module _ {x : Exposure} {others : ℕ} {before : List ℕ} {i : ℕ} {sums : List ℕ} (s : Summing x others before i sums) where
   -- what the turn reads is as it was
-  pub pair-now : pair x sums i ≡ pair x before i
-  pair-now = ap₂ (λ (a b : ℕ). gone x * a + x .count * b) (s .rest (i * 2) (omega arith)) (s .rest (i * 2 + 1) (omega arith))
+  pub pair-now : pair x others sums i ≡ pair x others before i
+  pair-now = ap₂ (λ (a b : ℕ). gone x * a + x .count * b) (s .rest i (omega arith)) (s .rest (i + others) (omega arith))
 
-  pub sum-next : i < length sums → (v : ℕ) → v ≡ pair x sums i → Summing x before (i + 1) (set sums i v)
+  pub sum-next : i < length sums → (v : ℕ) → v ≡ pair x others sums i → Summing x others before (i + 1) (set sums i v)
   sum-next h v e = record {
     long = length-set sums i v ∙ s .long;
     done = below-more _ _ (λ k q. let ne : k ≢ i = omega arith in rw getD-set-other (s .done k q)) (rw getD-set-same (e ∙ pair-now));

@@ -2,7 +2,7 @@
 use Prim.Native.Nat.{ℕ, _+_, _*_}
 use mathlib.Core.Bool.{true, false}
 use mathlib.Core.List.{List, [], _∷_}
-use lib.ListN.{length}
+use lib.ListN.{length, getD}
 use Rattle.patterns.specs.Patterns.{Pattern, all}
 use Rattle.weights.specs.declared.exposure.Exposure.{Exposure}
 use Rattle.weights.specs.Exposures.{counted, gone, lost}
@@ -24,3 +24,7 @@ kept N [] = []
 kept [] (l ∷ ls) = lost ∷ kept [] ls
 kept (true ∷ N) (l ∷ ls) = l ∷ kept N ls
 kept (false ∷ N) (l ∷ ls) = lost ∷ kept N ls
+
+-- the two patterns that differ in the last seat alone, weighed: as numbers, the first is p and the second has all the other seats' patterns before it
+abbrev pub pair : Exposure → ℕ → List ℕ → ℕ → ℕ
+pair x others sums p = gone x * getD sums p 0 + x .count * getD sums (p + others) 0

@@ -52,8 +52,7 @@ loop-year-again c =
     let i = c .args .rate in
     let t = c .loop-year .year in
     let w = c .weight-weight .ensures in
-    let y = c .yearly-factor .ensures .value ∙ (λ j. yearly (w .weight j) (w .full j) (c .loop-year .inv .2 j)) in
-    (
+    let y = c .yearly-factor .ensures .value ∙ (λ j. yearly (w .weight j) (w .full j) (c .loop-year .inv .2 j)) in (
       ap₂ _+_ (c .loop-year .inv .0) y ∙ sym (below-next (yearlyOf b x i) t),
       omega (arith, c .loop-year .inv .1, c .yearly-factor .ensures .bound),
       c .next-discount .ensures .value ∙ ap (λ (v : ℕ). v * 10000 / (10000 + i)) (c .loop-year .inv .2) ∙ sym (discount-next i t),

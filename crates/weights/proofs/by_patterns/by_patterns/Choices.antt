@@ -4,5 +4,5 @@ use Rattle.patterns.specs.Seats.{patterns}
 use Rattle.weights.proofs.ByPatterns.{Left}
 use Rattle.weights.proofs.by_patterns.by_patterns.Given as given
 
-abbrev pub Inv-loop-seat : given.InvT-loop-seat
-Inv-loop-seat l = (length (l .sums) ≡ patterns) × Left (l .exposures .seats) (l .shares .twentieths) (l .seat-index) (l .left) (l .sums) (l .full)
+abbrev pub Inv-loop-i : given.InvT-loop-i
+Inv-loop-i l = (length (l .sums) ≡ patterns) × Left (l .exposures .seats) (l .shares .twentieths) (l .i) (l .left) (l .sums) (l .full)

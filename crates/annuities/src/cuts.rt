@@ -5,12 +5,18 @@ ghost use Rattle.annuities.specs.Values.{probability, yearly, Cut};
 use crate::discounts::UNIT;
 use weights::weight::Weight;
 
-// The part that a weight is of the full weight, in hundred-millionths, one decimal after another.
+// A weight that can be multiplied by the unit at once.
+const FEW: u64 = u64::MAX / UNIT;
+
+// The part that a weight is of the full weight, in hundred-millionths, one decimal after another unless the weight is small.
 fn probability(weight: &Weight) -> u64
     ensures value { λ r. ⌜ r ≡ probability (now (weight .entry) .weight) (now (weight .entry) .full) ⌝ }
     ensures bound { λ r. ⌜ r ≤ 10 ^ 8 ⌝ }
 {
     let full = weight.full;
+    if weight.weight <= FEW {
+        return weight.weight * UNIT / full;
+    }
     let mut part = weight.weight / full;
     let mut rest = weight.weight % full;
     for _place in 0..8usize {

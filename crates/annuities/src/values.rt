@@ -13,6 +13,7 @@ use crate::valuation::Valuation;
 use benefits::benefit::Benefit;
 use cases::inforce::InForce;
 use refusals::Refusal;
+use weights::by_patterns::by_patterns;
 
 // The years that are summed: 0 to 120.
 const YEARS: u32 = 121;
@@ -42,8 +43,10 @@ fn summed_years(case: &InForce, benefit: &Benefit, rate: u32) -> u64
     let mut factor = 0;
     let mut discount = UNIT;
     for year in 0..YEARS {
-        let weight = case.weight(benefit, year);
-        if weight.weight == 0 && case.is_over(benefit, year) {
+        let exposures = case.exposures(benefit, year);
+        let weight = by_patterns(&exposures, benefit.shares());
+        // Nobody named is counted from here on, and nothing is paid for nobody.
+        if weight.weight == 0 && exposures.is_over() {
             return factor;
         }
         factor += yearly(&weight, discount);

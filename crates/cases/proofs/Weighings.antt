@@ -7,16 +7,16 @@ use Prim.Native.Nat.{ℕ, zero, suc, min, _+_, _-_, _*_, _^_, _<_, _≤_}
 use native.Mathlib.Nat.{le-trans, le-of-eq, add-zero, add-suc, mul-le-mul, mul-le-mul-left}
 use native.Mathlib.Numerals.{add-one}
 use native.Mathlib.Omega.{arith}
-use lib.Dec.{ltb}
-use lib.ListN.{length, getD, drop}
+use lib.ListN.{length, getD}
 use lib.Seq.{ext-getD}
-use Rattle.std.proofs.shelf.Lists.{getD-past, drop-more, drop-all}
-use Rattle.std.proofs.shelf.Tests.{cases-lt, cases-bool, false≢true, cond-true, cond-false, ltb-false, lt-ltb, le-ltb}
+use Rattle.std.proofs.shelf.Lists.{getD-past}
+use Rattle.std.proofs.shelf.Tests.{cases-lt}
 use Rattle.patterns.specs.Seats.{seats as number-of-seats}
 use Rattle.patterns.specs.Patterns.{Pattern, flags, number}
 use Rattle.patterns.specs.Anys.{isMember}
 use Rattle.weights.specs.declared.exposure.Exposure.{Exposure}
-use Rattle.weights.specs.Exposures.{standing, lost, Sound, Present, D}
+use Rattle.weights.specs.Exposures.{standing, lost, Sound, Present, D, noneCounted}
+use Rattle.weights.proofs.Counting.{none-count}
 use Rattle.weights.specs.Exposures.{seatAt as exposureAt}
 use Rattle.weights.specs.Patterns.{byPatterns, kept}
 use Rattle.weights.specs.Weights.{weight, productNamed, fullWeight}
@@ -29,7 +29,7 @@ use Rattle.seats.proofs.Products.{product-pos}
 use Rattle.benefits.specs.declared.benefit.Benefit.{Benefit}
 use Rattle.benefits.specs.Shares.{share}
 use Rattle.cases.specs.Book.{Book}
-use Rattle.cases.specs.Weighing.{exposureBy, exposureFor, exposuresFor, noneCounted, isOver, weightOf, fullOf}
+use Rattle.cases.specs.Weighing.{exposureBy, exposureFor, exposuresFor, weightOf, fullOf}
 
 -- ---- one exposure a seat
 pub map-long : {X Y : Type 0} (f : X → Y) (xs : List X) → length (map f xs) ≡ length xs
@@ -146,17 +146,6 @@ late-count xs s t e =
     (cases-lt t 121)
 
 -- ---- once no named seat is counted, nothing changes
-none-count : (xs : List Exposure) → noneCounted xs ≡ true → (i : ℕ) → exposureAt xs i .count ≡ 0
-none-count [] e i = refl
-none-count (x ∷ xs) e zero =
-    ⊎-elim (λ (q : ltb 0 (x .count) ≡ true). absurd (false≢true (sym (cond-true (ltb 0 (x .count)) false (noneCounted xs) q) ∙ e)))
-    (λ (q : ltb 0 (x .count) ≡ false). let h = ltb-false 0 (x .count) q in omega arith)
-    (cases-bool (ltb 0 (x .count)))
-none-count (x ∷ xs) e (suc i) =
-    ⊎-elim (λ (q : ltb 0 (x .count) ≡ true). absurd (false≢true (sym (cond-true (ltb 0 (x .count)) false (noneCounted xs) q) ∙ e)))
-    (λ (q : ltb 0 (x .count) ≡ false). none-count xs (sym (cond-false (ltb 0 (x .count)) false (noneCounted xs) q) ∙ e) i)
-    (cases-bool (ltb 0 (x .count)))
-
 -- a count that is 0 stays 0
 stays : (m : Mark) (a a′ r : ℕ) → a′ ≤ a → exposureBy m a r .count ≡ 0 → exposureBy m a′ r ≡ exposureBy m a r
 stays Empty a a′ r h e = refl
@@ -168,7 +157,7 @@ member-stays true mark a a′ r h e = stays mark a a′ r h e
 member-stays false mark a a′ r h e = refl
 
 module _ (b : Book) (columns : Columns (b .seats)) (within : Within (present (b .elapsed)) (b .seats)) (x : Benefit) where
-  pub settled : (t u : ℕ) → t ≤ u → isOver b x t ≡ true → weightOf b x u ≡ weightOf b x t
+  pub settled : (t u : ℕ) → t ≤ u → noneCounted (kept (flags number-of-seats (x .named)) (exposuresFor b t)) ≡ true → weightOf b x u ≡ weightOf b x t
   settled t u h over =
       let s = b .elapsed in
       let N = x .named in
@@ -183,16 +172,3 @@ module _ (b : Book) (columns : Columns (b .seats)) (within : Within (present (b 
       ∙ member-stays (isMember N i) (seat .mark) (getD (seat .counts) (s + t) 0) (getD (seat .counts) (s + u) 0) (getD (seat .counts) s 0) later gone
       ∙ sym (held-at b columns within t N i q)) in
       sym (weight-is b columns x u) ∙ ap (λ (xs : List Exposure). byPatterns xs (λ P. share x (number P))) same ∙ weight-is b columns x t
-
--- ---- the loop over the exposures
-none-at : (xs : List Exposure) (i : ℕ) → i < length xs → noneCounted (drop i xs) ≡ cond (ltb 0 (exposureAt xs i .count)) false (noneCounted (drop (i + 1) xs))
-none-at xs i h = ap noneCounted (drop-more xs i _ h)
-
-pub none-next : (xs : List Exposure) (i : ℕ) → i < length xs → exposureAt xs i .count ≤ 0 → noneCounted (drop i xs) ≡ noneCounted xs → noneCounted (drop (i + 1) xs) ≡ noneCounted xs
-none-next xs i h e inv = sym (cond-false (ltb 0 (exposureAt xs i .count)) false (noneCounted (drop (i + 1) xs)) (le-ltb 0 (exposureAt xs i .count) e)) ∙ sym (none-at xs i h) ∙ inv
-
-pub some-here : (xs : List Exposure) (i : ℕ) → i < length xs → 0 < exposureAt xs i .count → noneCounted (drop i xs) ≡ noneCounted xs → false ≡ noneCounted xs
-some-here xs i h e inv = sym (cond-true (ltb 0 (exposureAt xs i .count)) false (noneCounted (drop (i + 1) xs)) (lt-ltb 0 (exposureAt xs i .count) e)) ∙ sym (none-at xs i h) ∙ inv
-
-pub none-left : (xs : List Exposure) (i : ℕ) → length xs ≤ i → noneCounted (drop i xs) ≡ noneCounted xs → true ≡ noneCounted xs
-none-left xs i h inv = sym (ap noneCounted (drop-all i xs h)) ∙ inv

@@ -1,8 +1,8 @@
 -- What the book of a case gives for the weight of a benefit in a year.
 use Prim.Native.Nat.{ℕ, _+_, _*_}
 use mathlib.Core.Path.{_≡_}
-use mathlib.Core.Bool.{Bool, true, false, cond}
-use mathlib.Core.List.{List, [], _∷_, map}
+use mathlib.Core.Bool.{Bool, false, cond}
+use mathlib.Core.List.{List, map}
 use lib.Dec.{ltb}
 use lib.ListN.{getD}
 use Rattle.std.specs.declared.result.Result.{Result}
@@ -17,7 +17,6 @@ use Rattle.benefits.specs.Shares.{share}
 use Rattle.weights.specs.declared.exposure.Exposure.{Exposure}
 use Rattle.weights.specs.declared.weight.Weight.{Weight}
 use Rattle.weights.specs.Exposures.{lost}
-use Rattle.weights.specs.Patterns.{kept}
 use Rattle.weights.specs.Weights.{weight, productNamed}
 use Rattle.seats.specs.declared.seat.Mark.{Mark}
 use Rattle.seats.specs.declared.seat.Mark.the-variants.{Empty, Living, Failed}
@@ -39,11 +38,6 @@ exposureFor s t x = exposureBy (x .mark) (getD (x .counts) (s + t) 0) (getD (x .
 abbrev pub exposuresFor : Book → ℕ → List Exposure
 exposuresFor b t = map (exposureFor (b .elapsed) t) (b .seats)
 
--- has no exposure a count
-abbrev pub noneCounted : List Exposure → Bool
-noneCounted [] = true
-noneCounted (x ∷ xs) = cond (ltb 0 (x .count)) false (noneCounted xs)
-
 -- the weight for year t: the sum over all patterns of the named seats
 unfoldable pub weightOf : Book → Benefit → ℕ → ℕ
 weightOf b x t = weight (exposuresFor b t) (x .named) (share x)
@@ -51,10 +45,6 @@ weightOf b x t = weight (exposuresFor b t) (x .named) (share x)
 -- the full weight: twenty times the product of the present counts of the named seats
 unfoldable pub fullOf : Book → Benefit → ℕ
 fullOf b x = 20 * productNamed (flags number-of-seats (x .named)) (present (b .elapsed)) (b .seats)
-
--- is no named seat counted in year t
-abbrev pub isOver : Book → Benefit → ℕ → Bool
-isOver b x t = noneCounted (kept (flags number-of-seats (x .named)) (exposuresFor b t))
 
 -- is the seat i named and empty
 abbrev pub vacantAt : Book → ℕ → ℕ → Bool

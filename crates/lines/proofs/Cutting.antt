@@ -1,18 +1,16 @@
 -- Pieces, from where the first stop stands.
 use Prim.Native.Nat.{ℕ, _+_, _-_, _<_, _≤_, zero, suc}
 use mathlib.Core.Path.{_≡_, refl, sym, ap, _∙_}
-use mathlib.Core.Bool.{Bool, true, false, cond}
-use mathlib.Core.List.{List, [], _∷_, _++_}
+use mathlib.Core.Bool.{true, false}
+use mathlib.Core.List.{List, [], _∷_}
 use native.Mathlib.Omega.{arith}
-use native.Mathlib.Numerals.{add-one}
-use borrow.Author.Needs.{needs}
 use lib.Dec.{eqb}
 use lib.ListN.{length, getD, take, drop}
 use Rattle.std.specs.shelf.Lists.{All}
 use Rattle.std.proofs.shelf.Tests.{ne-eqb, eq-eqb, eqb-true, eqb-false, cond-both}
 use Rattle.std.proofs.shelf.Lists.{take-rest, drop-more, drop-all, take-all, length-take-le, drop-drop}
 use Rattle.writing.specs.Printed.{spaced}
-use Rattle.lines.specs.Pieces.{onto, pieces, fields, Opens, Fields-stand}
+use Rattle.lines.specs.Pieces.{onto, pieces, fields, Fields-stand}
 
 pub pieces-none : (stop : ℕ) (bs : List ℕ) → ((k : ℕ) → k < length bs → getD bs k 0 ≡ stop → ⊥) → pieces stop bs ≡ bs ∷ []
 pieces-none stop [] h = refl

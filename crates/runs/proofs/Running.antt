@@ -1,18 +1,14 @@
 -- A run, one line on.
 use Prim.Native.Nat.{ℕ, _+_, _-_, _<_, _≤_}
 use mathlib.Core.Path.{_≡_, refl, sym, ap, subst, _∙_}
-use mathlib.Core.Bool.{Bool, true, false, cond}
 use mathlib.Core.List.{List, [], _∷_, _++_}
 use native.Mathlib.Omega.{arith}
-use lib.Dec.{leb, eqb}
+use lib.Dec.{eqb}
 use lib.ListN.{length, take, drop}
-use Rattle.std.specs.declared.option.Option.{Option}
-use Rattle.std.specs.declared.result.Result.{Result}
 use Rattle.std.specs.declared.result.Result.the-variants.{Ok, Err}
 use Rattle.std.proofs.shelf.Lists.{append-assoc, length-append, length-take-le, drop-drop, take-rest}
 use Rattle.std.proofs.shelf.Tests.{cond-both}
 use Rattle.refusals.specs.declared.Refusal.the-variants as refusal
-use Rattle.annuities.specs.declared.valuation.Valuation.{Valuation}
 use Rattle.writing.specs.Printed.{Written}
 use Rattle.lines.specs.Pieces.{pieces, onto}
 use Rattle.schemes.specs.declared.fault.Fault.{Fault}

@@ -1,13 +1,13 @@
 -- Calls by their answers, and bases that are loaded.
 use Prim.Native.Nat.{ℕ, _*_, _<_, _≤_}
 use mathlib.Core.Path.{_≡_, refl, sym, ap, _∙_}
-use mathlib.Core.Bool.{true, false, _&&_}
+use mathlib.Core.Bool.{_&&_}
 use mathlib.Core.List.{List}
 use mathlib.Core.Logic.{_⊎_, inl, inr}
 use lib.Dec.{leb}
 use Rattle.std.specs.declared.result.Result.{Result}
 use Rattle.std.specs.declared.result.Result.the-variants.{Ok, Err}
-use Rattle.std.proofs.shelf.Tests.{le-ltb, lt-ltb, le-leb, cases-bool, and-parts, leb-true, and-from}
+use Rattle.std.proofs.shelf.Tests.{le-ltb, lt-ltb, le-leb, cases-bool, and-parts, leb-true}
 use Rattle.refusals.specs.declared.Refusal.{Refusal}
 use Rattle.refusals.specs.declared.Refusal.the-variants.{Counts, Limit}
 use Rattle.lives.specs.Column.{column}

@@ -1,13 +1,13 @@
 -- The first numbers of a line.
 use Prim.Native.Nat.{ℕ, _+_, _<_, _≤_}
-use mathlib.Core.Path.{_≡_, refl, sym, ap, _∙_}
+use mathlib.Core.Path.{_≡_, sym, ap, _∙_}
 use mathlib.Core.List.{List, [], _∷_, _++_}
 use mathlib.Core.Logic.{_⊎_, inl, inr}
 use native.Mathlib.Omega.{arith}
 use lib.ListN.{length, take, set}
 use Rattle.schemes.specs.Most.{most}
 use Rattle.std.proofs.shelf.Tests.{cases-lt}
-use Rattle.std.proofs.shelf.Lists.{take-all, take-append-le, take-more-set, length-take, length-push, length-take-le, take-take, append-nil}
+use Rattle.std.proofs.shelf.Lists.{take-all, take-append-le, take-more-set, length-take, length-push}
 
 pub pushed-in : (items : List ℕ) (k n : ℕ) → length items ≡ most → k < most → take (k + 1) (set items k n) ≡ take most (take k items ++ (n ∷ []))
 pushed-in items k n l h =

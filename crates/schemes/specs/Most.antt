@@ -1,7 +1,7 @@
 -- The numbers that a line can use.
 use Prim.Native.Nat.{ℕ}
 
--- how many of a line's numbers are kept: a table and two more counts than a life has
+-- how many of a line's numbers are kept: a table's number, and one more count than a table holds
 abbrev pub most : ℕ
 most = 123
 

@@ -1,8 +1,7 @@
 // A line's life: its basis, aged, projected, and then enrolled.
 ghost use mathlib.Core.Path.{_≡_};
-ghost use Prim.Native.Nat.{ℕ};
 ghost use lib.ListN.{take};
-ghost use Rattle.std.specs.declared.result.Result.the-variants.{Ok, Err};
+ghost use Rattle.std.specs.declared.result.Result.the-variants.{Ok};
 ghost use Rattle.cases.specs.Views.{enrollingBook};
 ghost use Rattle.schemes.specs.Counts.{lists};
 ghost use Rattle.schemes.specs.Enrolment.{enrolled, joined, after, Leaves, enrolled-by as enrolledBy, by-step as byStep, by-table as byTable, answer-of as answerOf};

@@ -5,7 +5,7 @@ ghost use Prim.Native.Nat.{_+_, _<_, _≤_};
 ghost use lib.ListN.{length, take, drop, getD};
 ghost use Rattle.schemes.specs.Most.{most};
 
-// A table's number, and more counts than a life has.
+// A table's number, and one more count than a table holds.
 const MOST: usize = 123;
 
 #[derive(Drop)]

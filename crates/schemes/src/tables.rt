@@ -1,12 +1,12 @@
 // The tables that lives are read from.
 ghost use mathlib.Core.Path.{_≡_};
-ghost use mathlib.Core.List.{[], List, _++_};
+ghost use mathlib.Core.List.{[], _++_};
 ghost use mathlib.Core.Bool.{true, false, cond};
 ghost use Rattle.std.specs.Options.{Cases};
 ghost use Rattle.lives.specs.Tables.{fairly};
 ghost use Rattle.schemes.specs.Enrolment.{Leaves};
 ghost use Rattle.schemes.specs.Most.{tableCount, yearCount};
-ghost use Prim.Native.Nat.{ℕ, _<_, _≤_};
+ghost use Prim.Native.Nat.{_<_, _≤_};
 ghost use lib.ListN.{length, getD, set, replicate};
 ghost use Rattle.schemes.specs.Counts.{Sound, lists, appended, list-of as listOf};
 use crate::fault::Fault;

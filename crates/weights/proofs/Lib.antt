@@ -1,3 +1,4 @@
 pub mod SumOut
 pub mod ByPatterns
 pub mod Named
+pub mod Counting

@@ -1,6 +1,8 @@
 -- Exposures: the count of each seat for a year, beside its present count.
 use Prim.Native.Nat.{ℕ, _-_, _*_, _≤_, _<_}
 use mathlib.Core.List.{List, [], _∷_}
+use mathlib.Core.Bool.{Bool, true, false, cond}
+use lib.Dec.{ltb}
 use lib.ListN.{length, getD}
 use Rattle.weights.specs.declared.exposure.Exposure.{Exposure}
 
@@ -34,3 +36,8 @@ Present xs = (i : ℕ) → i < length xs → 1 ≤ seatAt xs i .present
 unfoldable pub D : List Exposure → ℕ
 D [] = 1
 D (x ∷ xs) = x .present * D xs
+
+-- has no seat a count
+abbrev pub noneCounted : List Exposure → Bool
+noneCounted [] = true
+noneCounted (x ∷ xs) = cond (ltb 0 (x .count)) false (noneCounted xs)

@@ -8,7 +8,7 @@ ghost use Rattle.weights.specs.Exposures.{lost};
 ghost use Rattle.weights.specs.Patterns.{kept};
 ghost use Rattle.seats.specs.Seats.{Seated, seatAt};
 ghost use Rattle.cases.specs.Views.{inForceBook};
-ghost use Rattle.cases.specs.Weighing.{exposureFor, exposuresFor, weightOf, fullOf, isOver, vacantAt, vacancy, judge-weighing as judgeWeighing, Weighed};
+ghost use Rattle.cases.specs.Weighing.{exposureFor, exposuresFor, weightOf, fullOf, vacantAt, vacancy, judge-weighing as judgeWeighing, Weighed};
 use super::InForce;
 use benefits::benefit::Benefit;
 use patterns::SEATS;
@@ -46,7 +46,7 @@ impl InForce {
     }
 
     // All seats as the weight for a year sees them, each that is not named as a failed one.
-    fn exposures(&self, benefit: &Benefit, year: u32) -> Exposures
+    pub fn exposures(&self, benefit: &Benefit, year: u32) -> Exposures
         ensures { λ r. ⌜ r .seats ≡ kept (flags seats (now (benefit .entry) .named)) (exposuresFor (inForceBook (now (self .entry))) year) ⌝ }
     {
         let named = benefit.named();
@@ -55,27 +55,6 @@ impl InForce {
             found[seat] = self.exposure(named, seat, year);
         }
         Exposures { seats: found }
-    }
-
-    // The weight of a benefit for a year, an empty seat standing as a failed one.
-    pub fn weight(&self, benefit: &Benefit, year: u32) -> Weight
-        ensures weight { λ r. ⌜ r .weight ≡ weightOf (inForceBook (now (self .entry))) (now (benefit .entry)) year ⌝ }
-        ensures full { λ r. ⌜ r .full ≡ fullOf (inForceBook (now (self .entry))) (now (benefit .entry)) ⌝ }
-    {
-        by_patterns(&self.exposures(benefit, year), benefit.shares())
-    }
-
-    // Whether no named life is counted in a year, and so in none after it.
-    pub fn is_over(&self, benefit: &Benefit, year: u32) -> bool
-        ensures { λ r. ⌜ r ≡ isOver (inForceBook (now (self .entry))) (now (benefit .entry)) year ⌝ }
-    {
-        let exposures = self.exposures(benefit, year);
-        for seat in &exposures.seats {
-            if seat.count > 0 {
-                return false;
-            }
-        }
-        true
     }
 
     // Whether a seat is named and empty.
@@ -113,6 +92,6 @@ impl InForce {
         ensures { λ r. ⌜ Weighed r (judgeWeighing (inForceBook (now (self .entry))) (now (benefit .entry)) year) (weightOf (inForceBook (now (self .entry))) (now (benefit .entry)) year) (fullOf (inForceBook (now (self .entry))) (now (benefit .entry))) ⌝ }
     {
         self.test_weigh(benefit, year)?;
-        Ok(self.weight(benefit, year))
+        Ok(by_patterns(&self.exposures(benefit, year), benefit.shares()))
     }
 }

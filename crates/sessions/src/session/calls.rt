@@ -1,5 +1,4 @@
 // The lines that call the case.
-ghost use mathlib.Core.Path.{_≡_};
 ghost use Rattle.cases.specs.Views.{enrollingBook, inForceBook};
 ghost use Rattle.schemes.specs.Enrolment.{Leaves};
 ghost use Rattle.schemes.specs.Syntax.{amount};

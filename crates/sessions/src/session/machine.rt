@@ -1,6 +1,5 @@
 // What a session does at a line.
 ghost use mathlib.Core.Path.{_≡_};
-ghost use Rattle.std.specs.Results.{Cases};
 ghost use Rattle.cases.specs.Book.{step, start, beginning as newCase};
 ghost use Rattle.cases.specs.Views.{enrollingBook};
 ghost use Rattle.sessions.specs.State.{beginning, state-of as stateOf, with-book as inPhase};

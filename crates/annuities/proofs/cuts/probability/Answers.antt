@@ -1,5 +1,5 @@
 use native.Mathlib.Omega.{arith}
-use mathlib.Core.Path.{_≡_, sym, _∙_, ap, ap₂}
+use mathlib.Core.Path.{_≡_, refl, sym, _∙_, ap, ap₂}
 use Prim.Native.Nat.{ℕ, _+_, _*_, _/_, _%_, _^_, _≤_}
 use native.Mathlib.Nat.{le-trans, le-of-eq}
 use Rattle.annuities.proofs.Decimals.{next-digit, next-rest, digits-below}
@@ -29,3 +29,8 @@ returns c =
     let e : c .loop-place .-place ≡ 8 = omega arith in
     let v = c .loop-place .inv .0 ∙ ap (λ (n : ℕ). w .weight * 10 ^ n / w .full) e in
     record { value = v; bound = le-trans (le-of-eq v) (digits-below (w .weight) (w .full) 8 (w .part) (omega arith)) }
+
+pub returns-then-weight-le-FEW : need.returns-then-weight-le-FEW
+returns-then-weight-le-FEW c =
+    let w = c .args .weight .now in
+    record { value = refl; bound = digits-below (w .weight) (w .full) 8 (w .part) (omega arith) }

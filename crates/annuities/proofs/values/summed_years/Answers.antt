@@ -5,7 +5,13 @@ use native.Mathlib.Omega.{arith}
 use Rattle.patterns.specs.Patterns.{below}
 use Rattle.patterns.proofs.Sums.{below-none, below-next}
 use Rattle.cases.specs.Views.{inForceBook}
-use Rattle.cases.proofs.Weighings.{settled}
+use lib.ListN.{getD}
+use mathlib.Core.List.{List}
+use Rattle.patterns.specs.Patterns.{number}
+use Rattle.weights.specs.declared.exposure.Exposure.{Exposure}
+use Rattle.weights.specs.Exposures.{D, noneCounted}
+use Rattle.weights.specs.Patterns.{byPatterns}
+use Rattle.cases.proofs.Weighings.{settled, weight-is, full-is}
 use Rattle.annuities.specs.Values.{yearly, yearlyOf, factorOf}
 use Rattle.annuities.proofs.Discounting.{discount-first, discount-next}
 use Rattle.annuities.proofs.Summing.{nothing-more}
@@ -37,8 +43,9 @@ returns-then-is-over c =
     let b = inForceBook me in
     let x = c .args .benefit .now in
     let t = c .loop-year .year in
-    let over = sym (c .is-over .ensures) ∙ c .if-is-over .taken in
-    let none = λ (u : ℕ) (h : t ≤ u). settled b (me .columns) (me .within) x t u h over ∙ sym (c .weight-weight .ensures .weight) ∙ c .if-weight-eq0 .taken in
+    let over = ap noneCounted (sym (c .exposures-exposures .ensures)) ∙ sym (c .is-over .ensures) ∙ c .if-is-over .taken in
+    let weighs = c .by-patterns-weight .ensures .weight ∙ (λ i. byPatterns (c .exposures-exposures .ensures i) (λ P. getD (c .shares .ensures i .twentieths) (number P) 0)) ∙ weight-is b (me .columns) x t in
+    let none = λ (u : ℕ) (h : t ≤ u). settled b (me .columns) (me .within) x t u h over ∙ sym weighs ∙ c .if-weight-eq0 .taken in
     let all : t + (121 - t) ≡ 121 = omega arith in
     record {
       value = c .loop-year .inv .0 ∙ sym (nothing-more b x (c .args .rate) t (121 - t) none) ∙ ap (λ (n : ℕ). below _+_ 0 n (yearlyOf b x (c .args .rate))) all;
@@ -47,12 +54,15 @@ returns-then-is-over c =
 
 pub loop-year-again : need.loop-year-again
 loop-year-again c =
-    let b = inForceBook (c .args .case .now) in
+    let me = c .args .case .now in
+    let b = inForceBook me in
     let x = c .args .benefit .now in
     let i = c .args .rate in
     let t = c .loop-year .year in
-    let w = c .weight-weight .ensures in
-    let y = c .yearly-factor .ensures .value ∙ (λ j. yearly (w .weight j) (w .full j) (c .loop-year .inv .2 j)) in (
+    let weighs = c .by-patterns-weight .ensures .weight ∙ (λ j. byPatterns (c .exposures-exposures .ensures j) (λ P. getD (c .shares .ensures j .twentieths) (number P) 0)) ∙ weight-is b (me .columns) x t in
+    let fulls = c .by-patterns-weight .ensures .full ∙ ap (λ (xs : List Exposure). 20 * D xs) (c .exposures-exposures .ensures) ∙ full-is b (me .columns) x t in
+    let y = c .yearly-factor .ensures .value ∙ (λ j. yearly (weighs j) (fulls j) (c .loop-year .inv .2 j)) in
+    (
       ap₂ _+_ (c .loop-year .inv .0) y ∙ sym (below-next (yearlyOf b x i) t),
       omega (arith, c .loop-year .inv .1, c .yearly-factor .ensures .bound),
       c .next-discount .ensures .value ∙ ap (λ (v : ℕ). v * 10000 / (10000 + i)) (c .loop-year .inv .2) ∙ sym (discount-next i t),

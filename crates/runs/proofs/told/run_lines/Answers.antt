@@ -1,11 +1,11 @@
 use borrow.Author.Needs.{needs}
 use native.Mathlib.Omega.{arith}
 use mathlib.Core.Bool.{true, false}
-use mathlib.Core.Path.{_≡_, refl, sym, ap, subst, _∙_}
-use mathlib.Core.List.{List, [], _++_}
-use Prim.Native.Nat.{_+_, _-_, _<_, _≤_}
+use mathlib.Core.Path.{_≡_, sym, ap, subst, _∙_}
+use mathlib.Core.List.{[], _++_}
+use Prim.Native.Nat.{_+_, _-_, _<_}
 use lib.Dec.{leb}
-use lib.ListN.{length, take, drop, length-take, length-drop}
+use lib.ListN.{length, take, drop, length-take}
 use Rattle.std.specs.declared.result.Result.the-variants.{Ok, Err}
 use Rattle.std.proofs.shelf.Results.{err-from-errBy}
 use Rattle.std.proofs.shelf.Tests.{leb-true, leb-false}
@@ -13,8 +13,8 @@ use Rattle.std.proofs.shelf.Lists.{append-nil}
 use Rattle.lines.specs.Pieces.{pieces}
 use Rattle.schemes.specs.Faults.{in-line}
 use Rattle.sessions.specs.State.{state-of, beginning}
-use Rattle.sessions.specs.Machine.{Done, Lined, done-by}
-use Rattle.runs.specs.Run.{Ran, Runs, ran, after, spoken, so-far}
+use Rattle.sessions.specs.Machine.{Lined, done-by}
+use Rattle.runs.specs.Run.{Runs, ran, after, spoken, so-far}
 use Rattle.runs.specs.declared.outcome.Ending.the-variants.{Whole, Full}
 use Rattle.runs.proofs.Running.{run-stops, run-full, run-on, run-endless, run-whole, after-after, written-on, room-left, cut-line}
 use Rattle.runs.proofs.told.run_lines.Needs as need

@@ -1,8 +1,7 @@
-use mathlib.Core.Path.{_≡_, sym, ap, _∙_}
+use mathlib.Core.Path.{_∙_}
 use Rattle.std.proofs.shelf.Results.{err-from-errBy}
 use Rattle.cases.specs.Views.{enrollingBook}
 use Rattle.schemes.specs.Counts.{lists}
-use Rattle.schemes.specs.Enrolment.{enrolled-by}
 use Rattle.schemes.proofs.Fielding.{joined-is}
 use Rattle.schemes.proofs.Enrolments.{begins, begins-not}
 use Rattle.schemes.proofs.enrolment.enrol.Needs as need

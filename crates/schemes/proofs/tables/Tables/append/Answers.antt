@@ -1,7 +1,6 @@
-use borrow.Author.Needs.{needs}
 use native.Mathlib.Omega.{arith}
 use mathlib.Core.List.{_++_}
-use mathlib.Core.Path.{_≡_, sym, ap, _∙_}
+use mathlib.Core.Path.{sym, ap, _∙_}
 use Rattle.lives.specs.Tables.{fairly}
 use Rattle.schemes.proofs.Tabling.{sound-set, lists-set, lists-set-past}
 use Rattle.schemes.proofs.tables.Tables.append.Needs as need

@@ -1,5 +1,5 @@
 use mathlib.Core.Bool.{true, false}
-use mathlib.Core.Path.{_≡_, sym, ap, _∙_}
+use mathlib.Core.Path.{sym, ap, _∙_}
 use Rattle.schemes.specs.Counts.{lists}
 use Rattle.std.specs.declared.result.Result.the-variants.{Ok}
 use Rattle.schemes.proofs.Fielding.{appended-is}

@@ -26,3 +26,14 @@ next-rest w d i h = sym (ap (λ (k : ℕ). k % d) (ten w i ∙ cut (w * 10 ^ i) 
 pub digits-below : (w d i : ℕ) → w ≤ d → i ≤ 8 → w * 10 ^ i / d ≤ 100000000
 digits-below w d i h hi =
     NatL.le-trans (NatL.div-le-of-le-mul d (NatL.mul-le-mul-right (10 ^ i) h)) (NatL.pow-le-pow-right (NatL.zero-lt-suc 9) hi)
+
+-- before the first decimal
+pub no-digit : (w d : ℕ) → w < d → 0 ≡ w * 10 ^ 0 / d
+no-digit w d h = sym (ap (λ (k : ℕ). k / d) (NatL.mul-one w) ∙ NatL.div-eq-of-lt h)
+
+pub all-rest : (w d : ℕ) → w < d → w ≡ w * 10 ^ 0 % d
+all-rest w d h = sym (ap (λ (k : ℕ). k % d) (NatL.mul-one w) ∙ NatL.mod-eq-of-lt h)
+
+-- all of it
+pub all-of : (d : ℕ) → 0 < d → 100000000 ≡ d * 100000000 / d
+all-of d h = sym (ap (λ (k : ℕ). k / d) (NatL.mul-comm d 100000000) ∙ NatL.mul-div-cancel 100000000 h)

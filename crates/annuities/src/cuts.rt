@@ -17,8 +17,11 @@ fn probability(weight: &Weight) -> u64
     if weight.weight <= FEW {
         return weight.weight * UNIT / full;
     }
-    let mut part = weight.weight / full;
-    let mut rest = weight.weight % full;
+    if weight.weight == full {
+        return UNIT;
+    }
+    let mut part = 0;
+    let mut rest = weight.weight;
     for _place in 0..8usize {
         part = part * 10 + rest * 10 / full;
         rest = rest * 10 % full;

@@ -6,9 +6,9 @@ ghost use Rattle.std.specs.Results.{Cases};
 ghost use Rattle.std.specs.declared.result.Result.the-variants.{Ok, Err};
 ghost use Rattle.expressions.specs.Cuts.{cutAll, lower};
 use refusals::Refusal;
-use tokens::Lexer;
 use tokens::Token;
 use tokens::faults::TokenFault;
+use tokens::lexer::Lexer;
 
 // What decides where a token too many has a fault of its own: the lower code.
 fn lower_code(refusal: Refusal) -> Refusal

@@ -8,7 +8,7 @@ use Rattle.std.specs.declared.result.Result.the-variants.{Ok, Err}
 use Rattle.tokens.specs.declared.faults.TokenFault.{TokenFault}
 use Rattle.tokens.specs.declared.scan.Scanned.{Scanned}
 use Rattle.tokens.specs.declared.Token.{Token}
-use Rattle.tokens.specs.declared.Lexer.{Lexer}
+use Rattle.tokens.specs.declared.lexer.Lexer.{Lexer}
 use Rattle.tokens.specs.Cut.{scanAt}
 
 -- the text of a lexer, and how far it has come

@@ -1,11 +1,7 @@
 // Cuts a text into tokens, left to right.
-ghost use Prim.Native.Nat.{_≤_};
-ghost use lib.ListN.{length};
-ghost use denote.Ref.{now};
-
 pub mod classes;
 pub mod faults;
-mod peek;
+pub mod lexer;
 mod scan;
 mod words;
 
@@ -33,12 +29,4 @@ pub enum Code {
 pub struct Token {
     pub code: Code,
     pub place: usize,
-}
-
-// A text, and how far it has been cut.
-#[derive(Clone, Copy)]
-pub struct Lexer<'a> {
-    text: &'a [u8],
-    place: usize,
-    ghost within: { place ≤ length (now text) },
 }

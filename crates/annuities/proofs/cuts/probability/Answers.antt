@@ -1,8 +1,8 @@
 use native.Mathlib.Omega.{arith}
 use mathlib.Core.Path.{_≡_, refl, sym, _∙_, ap, ap₂}
-use Prim.Native.Nat.{ℕ, _+_, _*_, _/_, _%_, _^_, _≤_}
+use Prim.Native.Nat.{ℕ, _+_, _*_, _/_, _%_, _^_, _<_, _≤_}
 use native.Mathlib.Nat.{le-trans, le-of-eq}
-use Rattle.annuities.proofs.Decimals.{next-digit, next-rest, digits-below}
+use Rattle.annuities.proofs.Decimals.{no-digit, all-rest, all-of, next-digit, next-rest, digits-below}
 use Rattle.annuities.proofs.cuts.probability.Needs as need
 
 pub mul-part : need.mul-part
@@ -34,3 +34,14 @@ pub returns-then-weight-le-FEW : need.returns-then-weight-le-FEW
 returns-then-weight-le-FEW c =
     let w = c .args .weight .now in
     record { value = refl; bound = digits-below (w .weight) (w .full) 8 (w .part) (omega arith) }
+
+pub loop-place-holds : need.loop-place-holds
+loop-place-holds c =
+    let w = c .args .weight .now in
+    let less : w .weight < w .full = omega (arith, w .part, c .if-weight-full .left) in
+    (no-digit (w .weight) (w .full) less, all-rest (w .weight) (w .full) less)
+
+pub returns-then-weight-full : need.returns-then-weight-full
+returns-then-weight-full c =
+    let w = c .args .weight .now in
+    record { value = all-of (w .full) (w .some) ∙ sym (ap (λ (k : ℕ). k * 100000000 / w .full) (c .if-weight-full .taken)); bound = omega arith }

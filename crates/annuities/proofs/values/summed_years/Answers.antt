@@ -61,8 +61,7 @@ loop-year-again c =
     let t = c .loop-year .year in
     let weighs = c .by-patterns-weight .ensures .weight ∙ (λ j. byPatterns (c .exposures-exposures .ensures j) (λ P. getD (c .shares .ensures j .twentieths) (number P) 0)) ∙ weight-is b (me .columns) x t in
     let fulls = c .by-patterns-weight .ensures .full ∙ ap (λ (xs : List Exposure). 20 * D xs) (c .exposures-exposures .ensures) ∙ full-is b (me .columns) x t in
-    let y = c .yearly-factor .ensures .value ∙ (λ j. yearly (weighs j) (fulls j) (c .loop-year .inv .2 j)) in
-    (
+    let y = c .yearly-factor .ensures .value ∙ (λ j. yearly (weighs j) (fulls j) (c .loop-year .inv .2 j)) in (
       ap₂ _+_ (c .loop-year .inv .0) y ∙ sym (below-next (yearlyOf b x i) t),
       omega (arith, c .loop-year .inv .1, c .yearly-factor .ensures .bound),
       c .next-discount .ensures .value ∙ ap (λ (v : ℕ). v * 10000 / (10000 + i)) (c .loop-year .inv .2) ∙ sym (discount-next i t),

@@ -16,8 +16,7 @@ returns c =
     let b = inForceBook me in
     let x = c .args .benefit .now in
     let t = c .args .year in
-    let seats = c .exposures .ensures in
-    (
+    let seats = c .exposures .ensures in (
       sym (c .in-Continue-test-weigh .ensures tt),
       c .by-patterns .ensures .weight ∙ (λ i. byPatterns (seats i) (λ P. getD (c .shares .ensures i .twentieths) (number P) 0)) ∙ weight-is b (me .columns) x t,
       c .by-patterns .ensures .full ∙ ap (λ (xs : List Exposure). 20 * D xs) seats ∙ full-is b (me .columns) x t,

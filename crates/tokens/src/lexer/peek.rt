@@ -1,7 +1,7 @@
 // What a lexer sees next, and going past it.
 ghost use mathlib.Core.Path.{_≡_};
 ghost use Rattle.tokens.specs.Look.{look, after, lexed, at};
-use crate::Lexer;
+use super::Lexer;
 use crate::Token;
 use crate::faults::TokenFault;
 use crate::scan::scan;
@@ -12,14 +12,19 @@ impl<'a> Lexer<'a> {
         ensures text { λ r. ⌜ lexed r ≡ now (text .entry) ⌝ }
         ensures place { λ r. ⌜ at r ≡ 0 ⌝ }
     {
-        Lexer { text, place: 0 }
+        let ahead = scan(text, 0);
+        Lexer {
+            text,
+            place: 0,
+            ahead,
+        }
     }
 
     // The next token, or none at the text's end.
     pub fn peek(&self) -> Result<Option<Token>, TokenFault>
         ensures { λ r. ⌜ r ≡ look (lexed (now (self .entry))) (at (now (self .entry))) ⌝ }
     {
-        match scan(self.text, self.place)? {
+        match self.ahead? {
             Some(s) => Ok(Some(s.token)),
             None => Ok(None),
         }
@@ -30,8 +35,10 @@ impl<'a> Lexer<'a> {
         ensures text { λ _. ⌜ lexed (now (self .exit)) ≡ lexed (now (self .entry)) ⌝ }
         ensures place { λ _. ⌜ at (now (self .exit)) ≡ after (lexed (now (self .entry))) (at (now (self .entry))) ⌝ }
     {
-        if let Ok(Some(s)) = scan(self.text, self.place) {
+        if let Ok(Some(s)) = self.ahead {
+            let ahead = scan(self.text, s.end);
             self.place = s.end;
+            self.ahead = ahead;
         }
     }
 }

@@ -1,3 +1,4 @@
+-- The lemmas, by subject.
 pub mod Decimals
 pub mod Discounting
 pub mod Quotients

@@ -1,3 +1,4 @@
+-- The lemmas, by subject.
 pub mod Owning
 pub mod Parting
 pub mod Saying

@@ -1,3 +1,4 @@
+-- The definitions that the contracts cite.
 pub mod Carried
 pub mod Clauses
 pub mod Reads

@@ -1,3 +1,4 @@
+-- The lemmas, by subject.
 pub mod Bits
 pub mod Names
 pub mod Laws

@@ -1,3 +1,4 @@
+-- The definitions that the contracts cite.
 pub mod Answers
 pub mod Cuts
 pub mod Grammar

@@ -1,3 +1,4 @@
+-- The lemmas, by subject.
 pub mod Sums
 pub mod Bridge
 pub mod Anys

@@ -1,3 +1,4 @@
+-- The lemmas, by subject.
 pub mod Numbering
 pub mod Tabling
 pub mod Fielding

@@ -1,2 +1,3 @@
+-- The lemmas, by subject.
 pub mod Naming
 pub mod Runs

@@ -1,0 +1,1 @@
+-- The definitions that the contracts cite.

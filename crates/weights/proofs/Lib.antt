@@ -1,3 +1,4 @@
+-- The lemmas, by subject.
 pub mod SumOut
 pub mod ByPatterns
 pub mod Named

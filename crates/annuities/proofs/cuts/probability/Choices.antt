@@ -1,3 +1,4 @@
+-- The invariant of `probability`.
 use mathlib.Core.Path.{_≡_}
 use Prim.Native.Nat.{_*_, _/_, _%_, _^_}
 use Rattle.annuities.proofs.cuts.probability.Given as given

@@ -1,3 +1,4 @@
+-- The needs of `yearly`.
 use mathlib.Core.Path.{_≡_, sym, ap, subst}
 use Prim.Native.Nat.{ℕ, _*_, _/_, _^_}
 use Rattle.annuities.specs.Values.{Cut}

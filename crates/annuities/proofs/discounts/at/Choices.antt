@@ -1,3 +1,4 @@
+-- The invariant of `at`.
 use Prim.Native.Nat.{_≤_}
 use mathlib.Core.Path.{_≡_}
 use Rattle.annuities.specs.Discounts.{discount}

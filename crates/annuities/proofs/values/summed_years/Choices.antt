@@ -1,3 +1,4 @@
+-- The invariant of `summed_years`.
 use Prim.Native.Nat.{_+_, _*_, _≤_}
 use mathlib.Core.Path.{_≡_}
 use Rattle.patterns.specs.Patterns.{below}

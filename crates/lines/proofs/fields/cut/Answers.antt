@@ -1,3 +1,4 @@
+-- The needs of `cut`.
 use borrow.Author.Needs.{needs}
 use mathlib.Core.Path.{_∙_}
 use Prim.Native.Nat.{_-_}

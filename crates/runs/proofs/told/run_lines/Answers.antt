@@ -1,3 +1,4 @@
+-- The needs of `run_lines`.
 use borrow.Author.Needs.{needs}
 use native.Mathlib.Omega.{arith}
 use mathlib.Core.Bool.{true, false}

@@ -1,3 +1,4 @@
+-- The invariant and the measure of `run_lines`.
 use Prim.Native.Nat.{ℕ, _+_, _-_, _≤_}
 use mathlib.Core.Path.{_≡_}
 use mathlib.Core.List.{List}

@@ -1,3 +1,4 @@
+-- The needs of `tell`.
 use mathlib.Core.Path.{sym, subst, _∙_}
 use mathlib.Core.List.{_++_}
 use Prim.Native.Nat.{_-_}

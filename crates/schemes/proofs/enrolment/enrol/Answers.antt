@@ -1,3 +1,4 @@
+-- The needs of `enrol`.
 use mathlib.Core.Path.{_∙_}
 use Rattle.std.proofs.shelf.Results.{err-from-errBy}
 use Rattle.cases.specs.Views.{enrollingBook}

@@ -1,3 +1,4 @@
+-- The needs of `enrol_adjusted`.
 use mathlib.Core.Path.{sym, ap, _∙_}
 use mathlib.Core.List.{List}
 use Prim.Native.Nat.{min}

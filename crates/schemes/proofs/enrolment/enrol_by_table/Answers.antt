@@ -1,3 +1,4 @@
+-- The needs of `enrol_by_table`.
 use mathlib.Core.Path.{sym, ap, _∙_}
 use Rattle.std.specs.declared.result.Result.the-variants.{Err}
 use Rattle.std.proofs.shelf.Results.{err-from-errBy}

@@ -1,3 +1,4 @@
+-- The needs of `amount_and_clauses`.
 use borrow.Author.Tests.{ltb-true, ltb-false}
 use native.Mathlib.Omega.{arith}
 use mathlib.Core.Path.{refl, sym, ap, _∙_}

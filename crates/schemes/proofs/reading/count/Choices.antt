@@ -1,3 +1,4 @@
+-- The invariant and the measure of `count`.
 use Prim.Native.Nat.{_+_, _≤_}
 use mathlib.Core.Path.{_≡_}
 use lib.ListN.{length}

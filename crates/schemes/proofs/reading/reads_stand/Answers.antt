@@ -1,3 +1,4 @@
+-- The needs of `reads_stand`.
 use Rattle.schemes.proofs.Giving.{reads-stand}
 use Rattle.schemes.proofs.reading.reads_stand.Needs as need
 

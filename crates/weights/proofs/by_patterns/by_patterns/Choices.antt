@@ -1,3 +1,4 @@
+-- The invariant of `by_patterns`.
 use mathlib.Core.Path.{_≡_}
 use lib.ListN.{length}
 use Rattle.patterns.specs.Seats.{patterns}

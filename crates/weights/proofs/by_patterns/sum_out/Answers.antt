@@ -1,3 +1,4 @@
+-- The needs of `sum_out`.
 use mathlib.Core.Path.{refl, subst, sym}
 use Prim.Native.Nat.{ℕ, _*_, _+_, _^_, _≤_}
 use native.Mathlib.Omega.{arith}

@@ -1,3 +1,4 @@
+-- The invariant of `sum_out`.
 use Rattle.weights.proofs.SumOut.{Summing}
 use Rattle.weights.proofs.by_patterns.sum_out.Given as given
 

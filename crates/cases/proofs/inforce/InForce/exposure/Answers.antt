@@ -1,3 +1,4 @@
+-- The needs of `exposure`.
 use borrow.Author.Needs.{needs}
 use Rattle.seats.specs.Seats.{seatAt}
 use Rattle.cases.proofs.Weighings.{late-count}

@@ -1,3 +1,4 @@
+-- The invariant of `exposures`.
 use mathlib.Core.Path.{_≡_}
 use mathlib.Core.Bool.{cond}
 use Prim.Native.Nat.{ℕ, _<_}

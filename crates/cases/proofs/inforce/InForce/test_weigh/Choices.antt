@@ -1,3 +1,4 @@
+-- The invariant of `test_weigh`.
 use mathlib.Core.Path.{_≡_}
 use mathlib.Core.Bool.{false}
 use Rattle.patterns.specs.Anys.{anyTo}

@@ -1,3 +1,4 @@
+-- The needs of `weigh_by_patterns`.
 use mathlib.Core.Path.{_≡_, sym, ap, _∙_}
 use mathlib.Core.List.{List}
 use Prim.Native.Nat.{ℕ, _*_}

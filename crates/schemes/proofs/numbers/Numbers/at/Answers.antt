@@ -1,3 +1,4 @@
+-- The needs of `at`.
 use native.Mathlib.Omega.{arith}
 use mathlib.Core.Path.{sym}
 use lib.ListN.{take}

@@ -1,3 +1,4 @@
+-- The needs of `push`.
 use native.Mathlib.Omega.{arith}
 use Rattle.schemes.proofs.Numbering.{pushed-in, pushed-past}
 use Rattle.schemes.proofs.numbers.Numbers.push.Needs as need

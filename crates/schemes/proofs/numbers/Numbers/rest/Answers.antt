@@ -1,3 +1,4 @@
+-- The needs of `rest`.
 use Rattle.std.proofs.shelf.Parts.{between-is}
 use Rattle.schemes.proofs.numbers.Numbers.rest.Needs as need
 

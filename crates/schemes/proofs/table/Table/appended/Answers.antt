@@ -1,3 +1,4 @@
+-- The needs of `appended`.
 use borrow.Author.Needs.{needs}
 use native.Mathlib.Omega.{arith}
 use mathlib.Core.Bool.{true, false}

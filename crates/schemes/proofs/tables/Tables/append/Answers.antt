@@ -1,3 +1,4 @@
+-- The needs of `append`.
 use native.Mathlib.Omega.{arith}
 use mathlib.Core.List.{_++_}
 use mathlib.Core.Path.{sym, ap, _∙_}

@@ -1,3 +1,4 @@
+-- The needs of `extend`.
 use mathlib.Core.Bool.{true, false}
 use mathlib.Core.Path.{sym, ap, _∙_}
 use Rattle.schemes.specs.Counts.{lists}

@@ -1,3 +1,4 @@
+-- The needs of `is_over`.
 use native.Mathlib.Omega.{arith}
 use Rattle.weights.proofs.Counting.{none-next, some-here, none-left}
 use Rattle.weights.proofs.exposures.Exposures.is_over.Needs as need

@@ -1,3 +1,4 @@
+-- The invariant of `is_over`.
 use mathlib.Core.Path.{_≡_}
 use lib.ListN.{drop}
 use Rattle.weights.specs.Exposures.{noneCounted}

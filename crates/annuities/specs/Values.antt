@@ -45,9 +45,11 @@ accepted (Err e) r = Err e
 abbrev pub factored : Book → Benefit → ℕ → ℕ → Result ℕ Refusal
 factored b x i t = rated i (accepted (judge-weighing b x t) (Ok (yearlyOf b x i t)))
 
+-- the factor, which is refused as a weighing for year 0 is
 abbrev pub summed : Book → Benefit → ℕ → Result ℕ Refusal
 summed b x i = rated i (accepted (judge-weighing b x 0) (Ok (factorOf b x i)))
 
+-- the factor and the value, refused as the factor is
 abbrev pub valued : Book → Benefit → ℕ → Result Valuation Refusal
 valued b x i = rated i (accepted (judge-weighing b x 0) (Ok (record { factor = factorOf b x i; value = valueOf b x i })))
 

@@ -25,10 +25,11 @@ pub record Book : Type 0 where
   pub seats : List Seat
   pub elapsed : ℕ
 
--- the book of a case that is enrolling, and of one in force for some years
+-- the book of a case that is enrolling
 abbrev pub opened : List Seat → Book
 opened xs = record { phase = enrolment; seats = xs; elapsed = 0 }
 
+-- the book of a case in force, after some elapsed years
 abbrev pub running : List Seat → ℕ → Book
 running xs years = record { phase = in-force; seats = xs; elapsed = years }
 

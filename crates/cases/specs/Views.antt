@@ -9,6 +9,7 @@ use Rattle.cases.specs.Book.{Book, opened, running}
 abbrev pub enrollingBook : Enrolling → Book
 enrollingBook c = opened (c .table .seats)
 
+-- the book of a case in force
 abbrev pub inForceBook : InForce → Book
 inForceBook c = running (c .table .seats) (c .elapsed)
 

@@ -31,6 +31,7 @@ exposureBy Empty a r = lost
 exposureBy Living a r = record { count = a; present = r }
 exposureBy Failed a r = lost
 
+-- the exposure of a seat for year t, after s elapsed years
 abbrev pub exposureFor : ℕ → ℕ → Seat → Exposure
 exposureFor s t x = exposureBy (x .mark) (getD (x .counts) (s + t) 0) (getD (x .counts) s 0)
 

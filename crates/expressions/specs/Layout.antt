@@ -18,9 +18,11 @@ use Rattle.expressions.specs.Open as open-part
 use Rattle.expressions.specs.Open.{whole, inside, first, after-or, lone, after-and, after-not}
 use Rattle.expressions.specs.States.{State, operand, operator, digit, square, letters, closing}
 
+-- the words that wait, the last first
 abbrev pub wordsIn : Reader → List Word
 wordsIn r = map (λ p. p .word) (items (r .pending))
 
+-- the answers that wait, the last first
 abbrev pub masksIn : Reader → List ℕ
 masksIn r = items (r .answers)
 
@@ -30,20 +32,24 @@ pub record Kept (r s : Reader) : Type 0 where
   pub answers-room : room (s .answers) ≡ room (r .answers)
   pub same-named : s .named ≡ r .named
 
+-- a number for each word, to tell them apart
 abbrev pub rank : Word → ℕ
 rank Or = 0
 rank And = 1
 rank Not = 2
 rank Open = 3
 
+-- whether a word is the last that waits
 abbrev pub isTop : Word → List Word → Bool
 isTop w [] = false
 isTop w (v ∷ vs) = eqb (rank v) (rank w)
 
+-- whether no word waits
 abbrev pub isNil : List Word → Bool
 isNil [] = true
 isNil (w ∷ ws) = false
 
+-- the last answers that wait
 abbrev pub top : List ℕ → ℕ
 top ms = valueOr (head ms) 0
 
@@ -55,6 +61,7 @@ completeWords (And ∷ ws) = ws
 completeWords (Not ∷ ws) = completeWords ws
 completeWords (Open ∷ ws) = Open ∷ ws
 
+-- the answers that then wait
 abbrev pub completeMasks : List Word → List ℕ → ℕ → List ℕ
 completeMasks [] ms m = m ∷ ms
 completeMasks (Or ∷ ws) ms m = m ∷ ms
@@ -66,6 +73,7 @@ completeMasks (Open ∷ ws) ms m = m ∷ ms
 abbrev pub joinWords : List Word → List Word
 joinWords ws = cond (isTop Or ws) (rest ws) ws
 
+-- the answers that then wait
 abbrev pub joinMasks : List Word → List ℕ → List ℕ
 joinMasks ws ms = cond (isTop Or ws) (bitOr (top (rest ms)) (top ms) ∷ rest (rest ms)) ms
 
@@ -79,6 +87,7 @@ wordsOf (lone k) = wordsOf k
 wordsOf (after-and a k) = And ∷ wordsOf k
 wordsOf (after-not k) = Not ∷ wordsOf k
 
+-- the answers that wait where a part stands open
 abbrev pub masksOf : {p : Part} → open-part.Open p → List ℕ
 masksOf whole = []
 masksOf (inside k) = masksOf k
@@ -88,6 +97,7 @@ masksOf (lone k) = masksOf k
 masksOf (after-and a k) = maskOf a ∷ masksOf k
 masksOf (after-not k) = masksOf k
 
+-- the words that wait in a state
 abbrev pub words : State → List Word
 words (operand k) = wordsOf k
 words (operator k a) = wordsOf k
@@ -96,6 +106,7 @@ words (square g k) = wordsOf k
 words (letters g k) = wordsOf k
 words (closing g s k) = wordsOf k
 
+-- the answers that wait in a state
 abbrev pub masks : State → List ℕ
 masks (operand k) = masksOf k
 masks (operator k a) = maskOf a ∷ masksOf k
@@ -104,6 +115,7 @@ masks (square g k) = masksOf k
 masks (letters g k) = masksOf k
 masks (closing g s k) = masksOf k
 
+-- what a state expects next
 abbrev pub expects : State → Expect
 expects (operand k) = expect.Operand
 expects (operator k a) = expect.Operator
@@ -112,6 +124,7 @@ expects (square g k) = expect.Square g
 expects (letters g k) = expect.Letters g
 expects (closing g s k) = expect.Closing g s
 
+-- the reader stands in the state
 pub record Fits (s : State) (r : Reader) : Type 0 where
   pub expecting : r .expect ≡ expects s
   pub waiting : wordsIn r ≡ words s

@@ -5,6 +5,7 @@ use Rattle.tokens.specs.declared.Code.{Code}
 use Rattle.tokens.specs.declared.Code.the-variants as code
 use Rattle.expressions.specs.Grammar.{Tree, Part, Reads, not, and, or, factor, ands, term, ors, expression}
 
+-- what stands open to the left of a part
 pub data Open : Part → Type 0 where
   whole : Open expression
   inside : Open factor → Open expression

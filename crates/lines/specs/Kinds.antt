@@ -20,9 +20,11 @@ letter YearEnd = 89
 letter Close = 69
 letter Benefit = 66
 
+-- all kinds
 abbrev pub kinds : List Kind
 kinds = Table ∷ Life ∷ Withdraw ∷ Rate ∷ Start ∷ Fail ∷ YearEnd ∷ Close ∷ Benefit ∷ []
 
+-- the kind of those listed that a byte names
 abbrev pub named : ℕ → List Kind → Option Kind
 named c [] = None
 named c (k ∷ ks) = cond (eqb c (letter k)) (Some k) (named c ks)
@@ -37,6 +39,7 @@ abbrev pub kind-of : List ℕ → Option Kind
 kind-of [] = None
 kind-of (c ∷ cs) = cond (opens cs) (named c kinds) None
 
+-- what follows the first byte
 abbrev pub after-kind : List ℕ → List ℕ
 after-kind [] = []
 after-kind (c ∷ cs) = cs

@@ -16,5 +16,6 @@ abbrev pub falls : ℕ → List ℕ → Bool
 falls top [] = true
 falls top (x ∷ xs) = leb x top && falls x xs
 
+-- whether a list of counts makes a life
 abbrev pub fairly : List ℕ → Bool
 fairly xs = leb (length xs) 121 && falls 1000000 xs

@@ -39,6 +39,7 @@ pub record Ran : Type 0 where
   pub bytes : List ℕ
   pub ending : Ending
 
+-- a run by what it writes and how it ends
 abbrev pub ran : List ℕ → Ending → Ran
 ran bytes ending = record { bytes = bytes; ending = ending }
 

@@ -15,9 +15,11 @@ use Rattle.schemes.specs.Most.{tableCount, yearCount}
 use Rattle.lives.specs.Tables.{fairly}
 use Rattle.schemes.specs.Syntax.{given, by-read}
 
+-- a table by its memory and how much of it is used
 abbrev pub table-of : List ℕ → ℕ → Table
 table-of xs n = record { counts = xs; len = n }
 
+-- the table of a number; past the last there is none
 abbrev pub tableAt : List Table → ℕ → Table
 tableAt ts i = getD ts i (table-of [] 0)
 
@@ -25,6 +27,7 @@ tableAt ts i = getD ts i (table-of [] 0)
 abbrev pub list-of : Table → List ℕ
 list-of t = take (t .len) (t .counts)
 
+-- the counts of all tables
 abbrev pub lists : List Table → List (List ℕ)
 lists ts = map list-of ts
 

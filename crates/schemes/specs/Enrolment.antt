@@ -24,6 +24,7 @@ use Rattle.schemes.specs.Syntax.{given, by-read}
 abbrev pub by-table : List ℕ → Result (ℕ → ℕ) Refusal
 by-table xs = cond (fairly xs) (Ok (listed xs)) (Err Counts)
 
+-- the counts of a life that falls by m each year for w years, or why there are none
 abbrev pub by-step : ℕ → ℕ → Result (ℕ → ℕ) Refusal
 by-step w m = cond (leb w 120 && leb (m * w) 1000000) (Ok (straight w m)) (Err Limit)
 
@@ -31,6 +32,7 @@ by-step w m = cond (leb w 120 && leb (m * w) 1000000) (Ok (straight w m)) (Err L
 abbrev pub adjusted : (ℕ → ℕ) → ℕ → ℕ → List ℕ
 adjusted l aged factor = column (projected (later l (min aged yearCount)) (entries (replicate yearCount factor)))
 
+-- the book after a call, or why it is refused
 abbrev pub by-answer : Answer → Book → Result Book Refusal
 by-answer (Ok u) b = Ok b
 by-answer (Err e) b = Err e
@@ -66,6 +68,7 @@ abbrev pub answer-of : {X E : Type 0} → Result X E → Result (Unit {0}) E
 answer-of (Ok x) = Ok tt
 answer-of (Err e) = Err e
 
+-- what is left: the new, or the old where it is refused
 abbrev pub after : {X E : Type 0} → Result X E → X → X
 after (Ok x) old = x
 after (Err e) old = old

@@ -9,5 +9,6 @@ most = 123
 abbrev pub tableCount : ℕ
 tableCount = 4
 
+-- how many counts a life has
 abbrev pub yearCount : ℕ
 yearCount = 121

@@ -100,6 +100,7 @@ given k rest = cond (counted k (length (fields rest))) (reads k [] 2 (fields res
 abbrev pub one : Kind → List ℕ → Result ℕ Fault
 one k rest = by-read (given k rest) (λ ns. Ok (getD ns 0 0))
 
+-- a line that has no fields
 abbrev pub none : Kind → List ℕ → Result (Unit {0}) Fault
 none k rest = by-read (given k rest) (λ ns. Ok tt)
 
@@ -108,9 +109,11 @@ abbrev pub first-field : List (List ℕ) → List ℕ
 first-field [] = []
 first-field (f ∷ fs) = f
 
+-- where the clauses begin in the line
 abbrev pub clauses-place : List ℕ → ℕ
 clauses-place rest = length (first-field (fields rest)) + 3
 
+-- the text of the clauses
 abbrev pub clauses-text : List ℕ → List ℕ
 clauses-text rest = drop (length (first-field (fields rest)) + 2) rest
 

@@ -26,6 +26,7 @@ vacant = seat-of (replicate 121 0) Empty
 abbrev pub living : List ℕ → Seat
 living xs = seat-of xs Living
 
+-- a failed seat keeps its counts
 abbrev pub failed : List ℕ → Seat
 failed xs = seat-of xs Failed
 
@@ -47,11 +48,13 @@ isEmpty Empty = true
 isEmpty Living = false
 isEmpty Failed = false
 
+-- is a mark that of a living seat
 abbrev pub isLiving : Mark → Bool
 isLiving Empty = false
 isLiving Living = true
 isLiving Failed = false
 
+-- is a mark that of a failed seat
 abbrev pub isFailed : Mark → Bool
 isFailed Empty = false
 isFailed Living = false

@@ -50,18 +50,21 @@ pub record Done : Type 0 where
   pub state : State
   pub said : Option Valuation
 
+-- a line that says nothing
 abbrev pub quiet : State → Done
 quiet s = record { state = s; said = None }
 
--- a line that changes the book, the tables or the rate alone
+-- a line that changes the book alone
 abbrev pub on-book : State → Result Book Fault → Result Done Fault
 on-book s (Ok b) = Ok (quiet (with-book b s))
 on-book s (Err e) = Err e
 
+-- a line that changes the tables alone
 abbrev pub on-tables : State → Result (List (List ℕ)) Fault → Result Done Fault
 on-tables s (Ok ts) = Ok (quiet (record { book = s .book; tables = ts; rate = s .rate }))
 on-tables s (Err e) = Err e
 
+-- a line that changes the rate alone
 abbrev pub on-rate : State → Result ℕ Fault → Result Done Fault
 on-rate s (Ok n) = Ok (quiet (record { book = s .book; tables = s .tables; rate = n }))
 on-rate s (Err e) = Err e
@@ -71,19 +74,23 @@ abbrev pub saying : State → Result Valuation Fault → Result Done Fault
 saying s (Ok v) = Ok (record { state = s; said = Some v })
 saying s (Err e) = Err e
 
--- W seat, X seat, F, Y, E: the book after the call
+-- W seat
 abbrev pub withdrawn : List ℕ → Book → Result Book Fault
 withdrawn rest b = by-read (one kind.Withdraw rest) (λ seat. at-begin (call (withdraw seat) b))
 
+-- X seat
 abbrev pub failed : List ℕ → Book → Result Book Fault
 failed rest b = by-read (one kind.Fail rest) (λ seat. at-begin (call (fail seat) b))
 
+-- F
 abbrev pub started : List ℕ → Book → Result Book Fault
 started rest b = by-read (none kind.Start rest) (λ _. at-begin (call start b))
 
+-- Y
 abbrev pub aged : List ℕ → Book → Result Book Fault
 aged rest b = by-read (none kind.YearEnd rest) (λ _. at-begin (call year-end b))
 
+-- E: a new case is enrolling
 abbrev pub closed : List ℕ → Result Book Fault
 closed rest = by-read (none kind.Close rest) (λ _. Ok beginning)
 
@@ -118,6 +125,7 @@ abbrev pub Allowed : Bool → Kind → List ℕ → State → Result Done Fault 
 Allowed true k rest s d = Does k rest s d
 Allowed false k rest s d = d ≡ Err (At 0 refusal.Phase)
 
+-- what a line of a kind does in the phase of the book
 abbrev pub Acts : Kind → List ℕ → State → Result Done Fault → Type 0
 Acts k rest s d = Allowed (belongs k (s .book .phase)) k rest s d
 
@@ -126,14 +134,16 @@ abbrev pub Named : Option Kind → List ℕ → State → Result Done Fault → 
 Named None rest s d = d ≡ Err (At 0 refusal.Line)
 Named (Some k) rest s d = Acts k rest s d
 
+-- what a line does
 abbrev pub Lined : List ℕ → State → Result Done Fault → Type 0
 Lined line s d = Named (kind-of line) (after-kind line) s d
 
--- what was done, by the answer and the state after it; a refused line changes nothing
+-- what was done, by the answer and the state after it
 abbrev pub done-by : Result (Option Valuation) Fault → State → Result Done Fault
 done-by (Ok v) s = Ok (record { state = s; said = v })
 done-by (Err e) s = Err e
 
+-- a refused line changes nothing
 abbrev pub Kept : Result (Option Valuation) Fault → State → State → Type 0
 Kept (Ok v) new old = Unit {0}
 Kept (Err e) new old = new ≡ old

@@ -22,6 +22,7 @@ pub record State : Type 0 where
   pub tables : List (List ℕ)
   pub rate : ℕ
 
+-- what a session holds
 abbrev pub state-of : Session → State
 state-of s = record { book = book-of (s .phase) (enrollingBook (s .enrolling)) (inForceBook (s .inforce)); tables = lists (s .tables .tables); rate = s .rate }
 

@@ -15,6 +15,7 @@ use Rattle.tokens.specs.Cut.{scanAt}
 abbrev pub lexed : Lexer → List ℕ
 lexed l = l .text .now
 
+-- how far a lexer has come
 abbrev pub at : Lexer → ℕ
 at l = l .place
 

@@ -6,13 +6,15 @@ use lib.Dec.{ltb}
 use lib.ListN.{length, getD}
 use Rattle.weights.specs.declared.exposure.Exposure.{Exposure}
 
--- its count, its present count, and the deaths until that year
+-- its count for the year
 abbrev pub counted : Exposure → ℕ
 counted x = x .count
 
+-- its present count
 abbrev pub standing : Exposure → ℕ
 standing x = x .present
 
+-- the deaths until that year
 abbrev pub gone : Exposure → ℕ
 gone x = x .present - x .count
 

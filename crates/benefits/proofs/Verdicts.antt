@@ -22,7 +22,8 @@ use Rattle.expressions.specs.declared.reads.ReadFault.{ReadFault}
 use Rattle.expressions.specs.declared.reads.ReadFault.the-variants as fault
 use Rattle.expressions.specs.Cuts.{cutAll}
 use Rattle.expressions.specs.Verdict.{Answered, OfCut}
-use Rattle.benefits.specs.Carried.{carried}
+use Rattle.benefits.specs.declared.faults.PartFault.{PartFault}
+use Rattle.benefits.specs.Carried.{carried, inPart}
 use Rattle.benefits.specs.Clauses.{shareAt, shareEnd, shareIn, shareOf, noShare, expressionOf, ClauseVerdict}
 
 -- the digits of the share
@@ -59,10 +60,11 @@ module _ (text : List ℕ) (from end at p a : ℕ) (begins : from ≡ shareAt te
   pub clause-ok : (n : ℕ) (x : Reading) → Some n ≡ shareIn (take (end - from) (drop from text)) → Answered (Ok x) (take (length text - end) (drop end text)) p a → ClauseVerdict (shareOf text) (Ok (record { share = n; reading = x })) at text p a
   clause-ok n x e h = subst (λ o. ClauseVerdict o (Ok (record { share = n; reading = x })) at text p a) (share-known (Some n) e) (refl, subst (λ t. Answered (Ok x) t p a) rest-known h)
 
-  pub clause-err : (n : ℕ) (e : ReadFault) (f : TokenFault) → 64 ≤ p → 64 ≤ a → f ≡ carried e → Some n ≡ shareIn (take (end - from) (drop from text)) → Answered (Err e) (take (length text - end) (drop end text)) p a → ClauseVerdict (shareOf text) (Err (record { start = at + end; fault = f })) at text p a
+  pub clause-err : (n : ℕ) (e : ReadFault) (f : PartFault) → 64 ≤ p → 64 ≤ a → f ≡ inPart (at + end) e → Some n ≡ shareIn (take (end - from) (drop from text)) → Answered (Err e) (take (length text - end) (drop end text)) p a → ClauseVerdict (shareOf text) (Err f) at text p a
   clause-err n e f hp ha is known h =
       let told = token-only e (expressionOf text) p a hp ha (subst (λ t. Answered (Err e) t p a) rest-known h) in
-      subst (λ o. ClauseVerdict o (Err (record { start = at + end; fault = f })) at text p a) (share-known (Some n) known) (ap (λ k. at + k) (share-end text from end begins ends), subst (λ g. Answered (Err (fault.Token g)) (expressionOf text) p a) (sym is) told)
+      let here = subst (λ o. ClauseVerdict o (Err (inPart (at + end) e)) at text p a) (share-known (Some n) known) (ap (λ k. at + k) (share-end text from end begins ends), told) in
+      subst (λ g. ClauseVerdict (shareOf text) (Err g) at text p a) (sym is) here
 
-  pub clause-none : (f : TokenFault) → f ≡ noShare → None ≡ shareIn (take (end - from) (drop from text)) → ClauseVerdict (shareOf text) (Err (record { start = at + from; fault = f })) at text p a
-  clause-none f is known = subst (λ o. ClauseVerdict o (Err (record { start = at + from; fault = f })) at text p a) (share-known None known) (λ i. Err (record { start = at + begins i; fault = is i }))
+  pub clause-none : (f : PartFault) → f ≡ record { start = at + from; fault = noShare } → None ≡ shareIn (take (end - from) (drop from text)) → ClauseVerdict (shareOf text) (Err f) at text p a
+  clause-none f is known = subst (λ o. ClauseVerdict o (Err f) at text p a) (share-known None known) (ap Err is ∙ (λ i. Err (record { start = at + begins i; fault = noShare })))

@@ -14,6 +14,10 @@ abbrev pub carried : ReadFault → TokenFault
 carried (Token e) = e
 carried Short = record { refusal = Memory; place = 0 }
 
+-- a reader's fault in the part of the text that begins at the place n
+abbrev pub inPart : ℕ → ReadFault → PartFault
+inPart n e = record { start = n; fault = carried e }
+
 -- a part's fault in the clause of number n
 abbrev pub inClause : ℕ → PartFault → ClauseFault
 inClause n e = record { clause = n; start = e .start; fault = e .fault }

@@ -3,11 +3,10 @@ ghost use mathlib.Core.Path.{_≡_};
 ghost use mathlib.Core.List.{_∷_};
 ghost use Prim.Native.Nat.{_+_, _-_, _^_, _<_, _≤_};
 ghost use lib.ListN.{length, take, drop};
-ghost use Rattle.benefits.specs.Carried.{carried};
 ghost use Rattle.benefits.specs.Clauses.{shareIn, shareOf, noShare, ClauseVerdict, clausesFrom, clausesOf};
 use crate::faults::PartFault;
+use crate::faults::PartFromRead;
 use expressions::Pending;
-use expressions::ReadFault;
 use expressions::Reading;
 use expressions::read;
 use lines::pieces::find;
@@ -15,6 +14,7 @@ use refusals::Refusal;
 use tokens::classes::Class;
 use tokens::classes::run_end;
 use tokens::faults::TokenFault;
+use tokens::faults::with_number;
 use writing::number::number;
 
 // The share, in twentieths, where the expression holds.
@@ -34,27 +34,15 @@ fn share(field: &[u8]) -> Option<u32>
     }
 }
 
-// The token's fault for which an expression cannot be read.
-fn token_fault(e: ReadFault) -> TokenFault
-    ensures { λ r. ⌜ r ≡ carried e ⌝ }
-{
-    match e {
-        ReadFault::Token(fault) => fault,
-        ReadFault::Short => TokenFault {
-            refusal: Refusal::Memory,
-            place: 0,
-        },
-    }
-}
-
 // The fault of a share that is missing, ill-written or beyond its limit.
-fn no_share() -> TokenFault
-    ensures { λ r. ⌜ r ≡ noShare ⌝ }
+fn no_share(start: usize) -> PartFault
+    ensures { λ r. ⌜ r ≡ record { start = start; fault = noShare } ⌝ }
 {
-    TokenFault {
+    let fault = TokenFault {
         refusal: Refusal::Number,
         place: 0,
-    }
+    };
+    PartFault { start, fault }
 }
 
 // Reads a clause that begins at the place `at` of the clauses' text.
@@ -71,19 +59,12 @@ pub(crate) fn read_clause(
 {
     let from = run_end(text, 0, Class::Space);
     let end = run_end(text, from, Class::Digit);
-    match share(&text[from..end]) {
-        Some(share) => match read(&text[end..], pending, answers) {
-            Ok(reading) => Ok(Clause { share, reading }),
-            Err(e) => Err(PartFault {
-                start: at + end,
-                fault: token_fault(e),
-            }),
-        },
-        None => Err(PartFault {
-            start: at + from,
-            fault: no_share(),
-        }),
-    }
+    let share = match share(&text[from..end]) {
+        Some(share) => share,
+        None => return Err(no_share(at + from)),
+    };
+    let reading = with_number(read(&text[end..], pending, answers), at + end)?;
+    Ok(Clause { share, reading })
 }
 
 // Where the clause ends that begins at the place `at`.

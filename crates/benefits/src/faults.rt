@@ -1,6 +1,7 @@
 // The fault of a token, carried whole into the fault of its clause and of its benefit.
 ghost use mathlib.Core.Path.{_≡_};
-ghost use Rattle.benefits.specs.Carried.{inClause, inBenefit};
+ghost use Rattle.benefits.specs.Carried.{carried, inPart, inClause, inBenefit};
+use expressions::ReadFault;
 use refusals::Refusal;
 use tokens::faults::Numbered;
 use tokens::faults::TokenFault;
@@ -25,6 +26,31 @@ pub struct ClauseFault {
 pub enum BenefitFault {
     Refused(Refusal),
     Clause(ClauseFault),
+}
+
+// The token's fault for which an expression cannot be read.
+fn token_fault(e: ReadFault) -> TokenFault
+    ensures { λ r. ⌜ r ≡ carried e ⌝ }
+{
+    match e {
+        ReadFault::Token(fault) => fault,
+        ReadFault::Short => TokenFault {
+            refusal: Refusal::Memory,
+            place: 0,
+        },
+    }
+}
+
+// The number is the place at which the text begins.
+pub impl From<Numbered<ReadFault>> for PartFault as PartFromRead {
+    ghost converts = { λ n p. p ≡ inPart (n .number) (n .fault) };
+
+    fn from(n: Numbered<ReadFault>) -> PartFault {
+        PartFault {
+            start: n.number,
+            fault: token_fault(n.fault),
+        }
+    }
 }
 
 pub impl From<Numbered<PartFault>> for ClauseFault as ClauseFromPart {

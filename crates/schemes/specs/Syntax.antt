@@ -96,7 +96,7 @@ reads k sofar place (f ∷ fs) = by-read (read (shape k (length sofar) (getD sof
 abbrev pub given : Kind → List ℕ → Result (List ℕ) Fault
 given k rest = cond (counted k (length (fields rest))) (reads k [] 2 (fields rest)) (Err (At 0 Line))
 
--- the number of a line that has one, and nothing of a line that has none
+-- the number of a line that has one
 abbrev pub one : Kind → List ℕ → Result ℕ Fault
 one k rest = by-read (given k rest) (λ ns. Ok (getD ns 0 0))
 
@@ -104,7 +104,7 @@ one k rest = by-read (given k rest) (λ ns. Ok (getD ns 0 0))
 abbrev pub none : Kind → List ℕ → Result (Unit {0}) Fault
 none k rest = by-read (given k rest) (λ ns. Ok tt)
 
--- the first field, and where the text after it and its space begins, in the line and in what follows the kind
+-- the first field
 abbrev pub first-field : List (List ℕ) → List ℕ
 first-field [] = []
 first-field (f ∷ fs) = f

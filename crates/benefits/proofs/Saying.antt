@@ -105,27 +105,6 @@ module _ {text : List ℕ} {at number named : ℕ} {twentieths : List ℕ} {p a 
     pays = λ q h. omega (arith, pays q h, s .pays q h, sumBy-push (λ d. paid d q) (s .clauses) c);
   }
 
-  pub all-read : Sofar text at number named twentieths p a → length text < at → Added (record { named = named; twentieths = twentieths }) (pieces 59 text) p a
-  all-read s past = record {
-    clauses = s .clauses;
-    said = subst (λ l. Say l (s .clauses) p a) (sym (s .parts ∙ ap (λ l. s .before ++ l) (from-past text at past) ∙ append-nil (s .before))) (s .said);
-    names = s .names;
-    long = s .long;
-    pays = s .pays;
-  }
-
-  pub one-wrong : (s : Sofar text at number named twentieths p a) (t : List ℕ) (at′ : ℕ) (f : PartFault) → clausesFrom text at ≡ t ∷ clausesFrom text at′ → ClauseVerdict (shareOf t) (Err f) at t p a → Faulty (inClause number f) (pieces 59 text) p a
-  one-wrong s t at′ f parted verdict = record {
-    before = s .before;
-    clauses = s .clauses;
-    text = t;
-    later = clausesFrom text at′;
-    parts = s .parts ∙ ap (λ l. s .before ++ l) parted;
-    said = s .said;
-    numbered = s .numbered;
-    wrong = subst (λ k. ClauseVerdict (shareOf t) (Err f) k t p a) (s .reached) verdict;
-  }
-
 -- nothing is read yet
 pub none-read : (text : List ℕ) (p a : ℕ) → Sofar text 0 1 0 (replicate patterns 0) p a
 none-read text p a = record {

@@ -19,8 +19,8 @@ use Rattle.weights.specs.Exposures.{standing, lost, Sound, Present, D, noneCoun
 use Rattle.weights.proofs.Counting.{none-count}
 use Rattle.weights.specs.Exposures.{seatAt as exposureAt}
 use Rattle.weights.specs.Patterns.{byPatterns, kept}
-use Rattle.weights.specs.Weights.{weight, productNamed, fullWeight}
-use Rattle.weights.proofs.Named.{length-kept, kept-all, kept-at, D-kept, weight-kept, full-kept}
+use Rattle.weights.specs.Weights.{weight, productNamed}
+use Rattle.weights.proofs.Named.{length-kept, kept-all, kept-at, D-kept, weight-kept}
 use Rattle.seats.specs.declared.seat.Mark.{Mark}
 use Rattle.seats.specs.declared.seat.Mark.the-variants.{Empty, Living, Failed}
 use Rattle.seats.specs.declared.seat.Seat.{Seat}

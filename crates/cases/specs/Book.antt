@@ -104,8 +104,3 @@ by-answer (Err e) new old = old
 -- one call: what it does if it is accepted, else nothing
 abbrev pub step : Call → Book → Book
 step call b = by-answer (judged call b) (done call b) b
-
--- the book after a row of calls
-abbrev pub run : List Call → Book → Book
-run [] b = b
-run (call ∷ calls) b = run calls (step call b)

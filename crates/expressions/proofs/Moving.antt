@@ -79,13 +79,6 @@ joined-masks (first whole) a = refl
 joined-masks (first (inside k)) a = refl
 joined-masks (after-or c k) a = refl
 
-pub join-shorter : (ws : List Word) → length (joinWords ws) ≤ length ws
-join-shorter [] = omega arith
-join-shorter (Or ∷ ws) = omega arith
-join-shorter (And ∷ ws) = omega arith
-join-shorter (Not ∷ ws) = omega arith
-join-shorter (Open ∷ ws) = omega arith
-
 no : false ≡ true → ⊥
 no e = let z : _≡_ {A = ℕ} 0 1 = cc in omega arith
 

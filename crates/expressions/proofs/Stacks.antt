@@ -34,23 +34,6 @@ pub length-rest-below : {A : Type 0} (xs : List A) (n : ℕ) → length xs ≤ n
 length-rest-below [] n le some = some
 length-rest-below (x ∷ xs) n le some = omega arith
 
-no : false ≡ true → ⊥
-no e = let z : _≡_ {A = ℕ} 0 1 = cc in omega arith
-
-pub complete-and : (ws : List Word) → isTop And ws ≡ true → (completeWords ws ≡ rest ws) × ((ms : List ℕ) (m : ℕ) → completeMasks ws ms m ≡ bitAnd (top ms) m ∷ rest ms)
-complete-and [] e = absurd (no e)
-complete-and (Or ∷ ws) e = absurd (no e)
-complete-and (And ∷ ws) e = (refl, λ ms m. refl)
-complete-and (Not ∷ ws) e = absurd (no e)
-complete-and (Open ∷ ws) e = absurd (no e)
-
-pub complete-other : (ws : List Word) → isTop Not ws ≡ false → isTop And ws ≡ false → (completeWords ws ≡ ws) × ((ms : List ℕ) (m : ℕ) → completeMasks ws ms m ≡ m ∷ ms)
-complete-other [] e f = (refl, λ ms m. refl)
-complete-other (Or ∷ ws) e f = (refl, λ ms m. refl)
-complete-other (And ∷ ws) e f = absurd (no (sym f))
-complete-other (Not ∷ ws) e f = absurd (no (sym e))
-complete-other (Open ∷ ws) e f = (refl, λ ms m. refl)
-
 pub join-words : (ws : List Word) → isTop Or ws ≡ true → joinWords ws ≡ rest ws
 join-words ws t = ap (λ b. cond b (rest ws) ws) t
 

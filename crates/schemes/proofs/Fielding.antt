@@ -31,9 +31,6 @@ reads-more k sofar place f fs n e =
     ap (λ r. by-read r (λ m. reads k (sofar ++ (m ∷ [])) (place + length f + 1) fs)) e
     ∙ ap (λ p. reads k (sofar ++ (n ∷ [])) p fs) (add-assoc place (length f) 1)
 
-pub reads-not : (k : Kind) (sofar : List ℕ) (place : ℕ) (f : List ℕ) (fs : List (List ℕ)) (e : Fault) → read (shape k (length sofar) (getD sofar 1 0)) place f ≡ Err e → reads k sofar place (f ∷ fs) ≡ Err e
-reads-not k sofar place f fs e h = ap (λ r. by-read r (λ m. reads k (sofar ++ (m ∷ [])) (place + length f + 1) fs)) h
-
 long : (xs ys : List ℕ) → yearCount < length ys → fairly (xs ++ ys) ≡ false
 long xs ys h = too-long (xs ++ ys) (omega (arith, length-append xs ys))
 

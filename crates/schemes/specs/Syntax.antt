@@ -14,6 +14,7 @@ use Rattle.std.specs.declared.result.Result.the-variants.{Ok, Err}
 use Rattle.refusals.specs.declared.Refusal.the-variants.{Number, NoSeat, Line}
 use Rattle.patterns.specs.Seats.{seats}
 use Rattle.writing.specs.Numbers.{numbered}
+use Rattle.benefits.specs.Clauses.{positive}
 use Rattle.writing.specs.Printed.{spaced}
 use Rattle.lines.specs.declared.kind.Kind.{Kind}
 use Rattle.lines.specs.declared.kind.Kind.the-variants.{Table, Life, Withdraw, Rate, Start, Fail, YearEnd, Close, Benefit}
@@ -70,17 +71,12 @@ seated c = cond (leb 65 c && ltb (c - 65) seats) (Some (c - 65)) None
 abbrev pub based : ℕ → Option ℕ
 based c = cond (eqb c 97) (Some 97) (cond (eqb c 109) (Some 109) None)
 
--- an amount is not 0
-abbrev pub paid : Option ℕ → Option ℕ
-paid None = None
-paid (Some n) = cond (eqb n 0) None (Some n)
-
 -- the number that a field gives, the field beginning at a place; what is no number is blamed there
 abbrev pub read : Shape → ℕ → List ℕ → Result ℕ Fault
 read Seat place f = okOr (seated (only f)) (At 0 NoSeat)
 read Basis place f = okOr (based (only f)) (At place Number)
 read (UpTo limit) place f = okOr (numbered limit f) (At place Number)
-read Amount place f = okOr (paid (numbered 500000000 f)) (At place Number)
+read Amount place f = okOr (positive (numbered 500000000 f)) (At place Number)
 
 -- what is done with the numbers of a line, unless a field is refused
 abbrev pub by-read : {X Y : Type 0} → Result X Fault → (X → Result Y Fault) → Result Y Fault

@@ -15,7 +15,7 @@ use Rattle.patterns.proofs.Bridge.{bridgeℕ}
 use Rattle.weights.specs.declared.exposure.Exposure.{Exposure}
 use Rattle.weights.specs.Exposures.{counted, standing, gone, lost, seatAt, Sound, Present, D}
 use Rattle.weights.specs.Patterns.{times, byPatterns, kept}
-use Rattle.weights.specs.Weights.{timesOf, inside, patternTerm, weight, productNamed, fullWeight}
+use Rattle.weights.specs.Weights.{timesOf, inside, patternTerm, weight, productNamed}
 
 -- ---- what is kept of the seats
 pub length-kept : (N : Pattern) (ls : List Exposure) → length (kept N ls) ≡ length ls
@@ -82,9 +82,6 @@ weight-kept ls N f =
     ∙ bridgeℕ (length ls) (λ p P. f p * times counted gone held P)
     ∙ ap (λ (k : ℕ). all _+_ k (λ P. f (number P) * times counted gone held P)) (sym (length-kept (flags (length ls) N) ls))
     )
-
-pub full-kept : (ls : List Exposure) (N : ℕ) → 20 * D (kept (flags (length ls) N) ls) ≡ fullWeight ls N
-full-kept ls N = ap (λ (d : ℕ). 20 * d) (D-kept (flags (length ls) N) ls)
 
 -- ---- the seat i of what is kept
 first-seat : (b : Bool) (M : Pattern) (l : Exposure) (ls : List Exposure) (d : Exposure) → getD (kept (b ∷ M) (l ∷ ls)) 0 d ≡ cond b l lost

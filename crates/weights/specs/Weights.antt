@@ -35,7 +35,3 @@ productNamed N x [] = 1
 productNamed [] x (l ∷ ls) = 1
 productNamed (true ∷ N) x (l ∷ ls) = x l * productNamed N x ls
 productNamed (false ∷ N) x (l ∷ ls) = productNamed N x ls
-
--- the full weight: twenty times the product of the present counts of the named seats
-abbrev pub fullWeight : List Exposure → ℕ → ℕ
-fullWeight ls N = 20 * productNamed (flags (length ls) N) standing ls

@@ -1,4 +1,6 @@
 // The present value of a benefit: discounts, yearly factors, their sum, and the value of an amount.
+#![tactic(auto)]
+
 mod cuts;
 pub mod discounts;
 pub mod routed;

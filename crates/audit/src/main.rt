@@ -1,5 +1,7 @@
 // Replays two families' histories and prints, in words, each call and its answer, the account by the three routes, the sum over the survivors of a year,
 // and the value if a seat failed now.
+#![tactic(auto)]
+
 mod answers;
 mod calls;
 mod survivors;

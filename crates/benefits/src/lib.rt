@@ -1,4 +1,6 @@
 // A benefit: what is paid, and which part of it in each pattern of the lives alive.
+#![tactic(auto)]
+
 pub mod benefit;
 mod clauses;
 pub mod faults;

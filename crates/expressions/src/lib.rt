@@ -1,4 +1,6 @@
 // Reads an expression by operator precedence, over two stacks in lent memory.
+#![tactic(auto)]
+
 mod answers;
 mod cut;
 mod ends;

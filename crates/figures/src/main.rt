@@ -1,4 +1,6 @@
 // Prints worked figures, each by all three routes.
+#![tactic(auto)]
+
 use annuities::routed::factor_by;
 use benefits::benefit::Benefit;
 use cases::enrolling::Enrolling;

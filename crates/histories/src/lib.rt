@@ -1,4 +1,6 @@
 // Histories of a case, and the law of what is weighed and valued at their end.
+#![tactic(auto)]
+
 pub mod account;
 pub mod calls;
 pub mod replay;

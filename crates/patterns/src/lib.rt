@@ -1,4 +1,6 @@
 // Seats and patterns: how many there are, and the share of a benefit in each pattern.
+#![tactic(auto)]
+
 ghost use Rattle.std.specs.Prelude.{◌≡◌, ℕ, ◌≤◌, length, get_or};
 ghost use Rattle.patterns.specs.Seats.{patterns};
 

@@ -1,4 +1,6 @@
 // Reads each line of standard input as an expression, and prints what it says or where it is at fault.
+#![tactic(auto)]
+
 ghost use Rattle.std.specs.Prelude.{◌≤◌, length, IfOk};
 
 use expressions::{Pending, ReadFault, Word, read};

@@ -1,4 +1,6 @@
 // Every refusal of the product: one enum, the number of each, and its words.
+#![tactic(auto)]
+
 ghost use Rattle.std.specs.Prelude.{◌≡◌};
 ghost use Rattle.refusals.specs.Numbers.{number};
 

@@ -1,4 +1,6 @@
 // The run over a whole scheme file: what it prints, and how it ends.
+#![tactic(auto)]
+
 ghost use Rattle.std.specs.Prelude.{◌≡◌, ◌≤◌, length, take, drop};
 ghost use Rattle.runs.specs.Run.{FileRuns, ran, code};
 

@@ -1,4 +1,6 @@
 // The lines of a scheme file: their faults, their fields, the tables, and the lives that they enrol.
+#![tactic(auto)]
+
 pub mod enrolment;
 pub mod fault;
 pub mod numbers;

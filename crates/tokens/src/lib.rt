@@ -1,4 +1,6 @@
 // Cuts a text into tokens, left to right.
+#![tactic(auto)]
+
 pub mod classes;
 pub mod faults;
 pub mod lexer;

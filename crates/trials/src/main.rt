@@ -1,4 +1,6 @@
 // Runs scheme files, and compares what each prints with what it should.
+#![tactic(auto)]
+
 use runs::run;
 use std::{env, fs};
 

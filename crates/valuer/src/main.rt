@@ -1,4 +1,6 @@
 // Reads a scheme file from standard input, writes what it prints, and says a refusal in words.
+#![tactic(auto)]
+
 ghost use Rattle.std.specs.Prelude.{◌≤◌, length, IfOk};
 
 use anyhow::anyhow;

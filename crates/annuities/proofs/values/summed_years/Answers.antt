@@ -32,15 +32,15 @@ returns c =
       bound = omega (arith, c.loop-year.invariant.1, e);
     }
 
-pub returns-then-is-over : goal.returns-then-is-over
+pub returns-then-is_over : goal.returns-then-is_over
 unfolding factor_of
-returns-then-is-over c =
+returns-then-is_over c =
     let me = c.args.case.now in
     let b = in_force_book me in
     let x = c.args.benefit.now in
     let t = c.loop-year.year in
-    let over = ap none_counted (sym c.exposures-exposures.ensures) ∙ sym c.is-over.ensures ∙ c.if-is-over.true in
-    let weighs = c.by-patterns-weight.ensures.weight ∙ (λ i. by_patterns (c.exposures-exposures.ensures i) (λ P. get_or (c.shares.ensures i).twentieths (number P) 0)) ∙ weight_is b me.columns x t in
+    let over = ap none_counted (sym c.exposures-exposures.ensures) ∙ sym c.is_over.ensures ∙ c.if-is_over.true in
+    let weighs = c.by_patterns-weight.ensures.weight ∙ (λ i. by_patterns (c.exposures-exposures.ensures i) (λ P. get_or (c.shares.ensures i).twentieths (number P) 0)) ∙ weight_is b me.columns x t in
     let none = λ (u : ℕ) (h : t ≤ u). settled b me.columns me.within x t u h over ∙ sym weighs ∙ c.if-weight-eq0.true in
     let all : t + (121 - t) ≡ 121 = omega arith in
     record {
@@ -55,11 +55,11 @@ loop-year-preserved c =
     let x = c.args.benefit.now in
     let i = c.args.rate in
     let t = c.loop-year.year in
-    let weighs = c.by-patterns-weight.ensures.weight ∙ (λ j. by_patterns (c.exposures-exposures.ensures j) (λ P. get_or (c.shares.ensures j).twentieths (number P) 0)) ∙ weight_is b me.columns x t in
-    let fulls = c.by-patterns-weight.ensures.full ∙ ap (λ (xs : List Exposure). 20 * D xs) c.exposures-exposures.ensures ∙ full_is b me.columns x t in
-    let y = c.yearly-factor.ensures.value ∙ (λ j. yearly (weighs j) (fulls j) (c.loop-year.invariant.2 j)) in (
+    let weighs = c.by_patterns-weight.ensures.weight ∙ (λ j. by_patterns (c.exposures-exposures.ensures j) (λ P. get_or (c.shares.ensures j).twentieths (number P) 0)) ∙ weight_is b me.columns x t in
+    let fulls = c.by_patterns-weight.ensures.full ∙ ap (λ (xs : List Exposure). 20 * D xs) c.exposures-exposures.ensures ∙ full_is b me.columns x t in
+    let y = c.yearly_factor.ensures.value ∙ (λ j. yearly (weighs j) (fulls j) (c.loop-year.invariant.2 j)) in (
       ap₂ ◌+◌ c.loop-year.invariant.0 y ∙ sym (below_next ◌+◌ 0 (yearly_of b x i) t),
-      omega (arith, c.loop-year.invariant.1, c.yearly-factor.ensures.bound),
+      omega (arith, c.loop-year.invariant.1, c.yearly_factor.ensures.bound),
       c.next-discount.ensures.value ∙ ap (λ (v : ℕ). v * 10000 / (10000 + i)) c.loop-year.invariant.2 ∙ sym (discount_next i t),
       le_trans c.next-discount.ensures.bound c.loop-year.invariant.3,
     )

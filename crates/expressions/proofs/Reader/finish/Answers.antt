@@ -6,20 +6,20 @@ use Rattle.expressions.specs.States.{joined, outer, Ends, ends}
 use Rattle.expressions.proofs.Moving.{joined_words, joined-masks, nothing_open, still_open, not_ended, at_operator}
 use Rattle.expressions.proofs.Reader.finish.Goals as goal
 
-pub returns-then-is-spent : goal.returns-then-is-spent
-returns-then-is-spent c = λ s f.
+pub returns-then-is_spent : goal.returns-then-is_spent
+returns-then-is_spent c = λ s f.
     let (k, a, is) = at_operator s (sym f.expecting ∙ c.in-Operator.is) in
     let j = c.join.ensures in
     let there : words_in c.join.new.self ≡ words_of (outer k) = j.words ∙ ap join_words (f.waiting ∙ ap words is) ∙ joined_words k in
     let known : masks_in c.join.new.self ≡ mask_of (joined k a) ∷ masks_of (outer k) = j.masks ∙ (λ i. join_masks ((f.waiting ∙ ap words is) i) ((f.answering ∙ ap masks is) i)) ∙ joined-masks k a in
-    (joined k a, subst (λ x. Ends x (joined k a)) (sym is) (ends (nothing_open (outer k) (ap is_nil (sym there) ∙ sym c.if-is-spent.ensures))), c.unwrap-or-answers.ensures ∙ ap (λ o. unwrap_or o 0) c.top.ensures ∙ ap top known, j.kept.same-named)
+    (joined k a, subst (λ x. Ends x (joined k a)) (sym is) (ends (nothing_open (outer k) (ap is_nil (sym there) ∙ sym c.if-is_spent.ensures))), c.unwrap_or-answers.ensures ∙ ap (λ o. unwrap_or o 0) c.top.ensures ∙ ap top known, j.kept.same-named)
 
-pub returns-else-is-spent : goal.returns-else-is-spent
-returns-else-is-spent c = λ s f.
+pub returns-else-is_spent : goal.returns-else-is_spent
+returns-else-is_spent c = λ s f.
     let (k, a, is) = at_operator s (sym f.expecting ∙ c.in-Operator.is) in
     let j = c.join.ensures in
     let there : words_in c.join.new.self ≡ words_of (outer k) = j.words ∙ ap join_words (f.waiting ∙ ap words is) ∙ joined_words k in
-    (refl, λ t e. still_open k a t (ap is_nil (sym there) ∙ sym c.if-is-spent.ensures) (subst (λ x. Ends x t) is e))
+    (refl, λ t e. still_open k a t (ap is_nil (sym there) ∙ sym c.if-is_spent.ensures) (subst (λ x. Ends x t) is e))
 
-pub returns-in-default : goal.returns-in-default
-returns-in-default c = λ s f. (refl, not_ended s (λ e. c.in-default.not-Operator (f.expecting ∙ e)))
+pub returns-in_default : goal.returns-in_default
+returns-in_default c = λ s f. (refl, not_ended s (λ e. c.in_default.not-Operator (f.expecting ∙ e)))

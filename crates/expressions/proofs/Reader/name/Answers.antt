@@ -4,9 +4,9 @@ use lib.Bits.{bit_or, or_zero_r}
 use Rattle.expressions.proofs.Moving.{no_seats}
 use Rattle.expressions.proofs.Reader.name.Goals as goal
 
-pub returns-in-default : goal.returns-in-default
-returns-in-default c =
+pub returns-in_default : goal.returns-in_default
+returns-in_default c =
     record {
       same = record { pending_room = refl; answers_room = refl; same-words = refl; same-masks = refl; same_expect = refl };
-      named = sym (ap (bit_or c.args.self.now.named) (no_seats c.args.code c.in-default.not-Letters) ∙ or_zero_r c.args.self.now.named);
+      named = sym (ap (bit_or c.args.self.now.named) (no_seats c.args.code c.in_default.not-Letters) ∙ or_zero_r c.args.self.now.named);
     }

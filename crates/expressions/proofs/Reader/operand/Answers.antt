@@ -32,15 +32,15 @@ returns-in-Exactly c = record { kept = record { pending_room = refl; answers_roo
 pub returns-in-AtLeast : goal.returns-in-AtLeast
 returns-in-AtLeast c = record { kept = record { pending_room = refl; answers_room = refl; same-named = refl }; took = λ k f. at-token (operand k) c.in-AtLeast.is (digit Least k, by_atleast, record { expecting = refl; waiting = f.waiting; answering = f.answering }) }
 
-pub returns-in-default : goal.returns-in-default
-returns-in-default c =
-    let n = c.in-default in
+pub returns-in_default : goal.returns-in_default
+returns-in_default c =
+    let n = c.in_default in
     record { kept = as_before _; took = λ k f. (refl, operand_stuck k c.args.token.code n.not-Not n.not-Open (λ s e one. n.not-Letters s e) n.not-Joint n.not-Last n.not-Exactly n.not-AtLeast) }
 
 pub returns-then-set-eq1 : goal.returns-then-set-eq1
 returns-then-set-eq1 c =
     let w = c.complete.ensures in
-    record { kept = w.kept; took = λ k f. at-token (operand k) c.in-Letters.is (settled k (seat c.in-Letters.set), by_letter c.if-set-eq1.true, fits_settled k (seat c.in-Letters.set) _ _ _ _ f.waiting f.answering c.group-mask.ensures w.expect w.words w.masks) }
+    record { kept = w.kept; took = λ k f. at-token (operand k) c.in-Letters.is (settled k (seat c.in-Letters.set), by_letter c.if-set-eq1.true, fits_settled k (seat c.in-Letters.set) _ _ _ _ f.waiting f.answering c.group_mask.ensures w.expect w.words w.masks) }
 
 pub returns-else-set-eq1 : goal.returns-else-set-eq1
 returns-else-set-eq1 c =

@@ -32,8 +32,8 @@ returns-in-Or c =
       );
     }
 
-pub returns-then-is-top : goal.returns-then-is-top
-returns-then-is-top c =
+pub returns-then-is_top : goal.returns-then-is_top
+returns-then-is_top c =
     let j = c.join-in-Close.ensures in
     let w = c.close.ensures in
     record {
@@ -41,19 +41,19 @@ returns-then-is-top c =
       took = λ k a f.
           let there : words_in c.join-in-Close.new.self ≡ words_of (outer k) = j.words ∙ ap join_words f.waiting ∙ joined_words k in
           let known : masks_in c.join-in-Close.new.self ≡ mask_of (joined k a) ∷ masks_of (outer k) = j.masks ∙ (λ i. join_masks (f.waiting i) (f.answering i)) ∙ joined-masks k a in
-          let (l, is) = open_there (outer k) (ap (is_top Open) (sym there) ∙ sym c.if-is-top.ensures) in
+          let (l, is) = open_there (outer k) (ap (is_top Open) (sym there) ∙ sym c.if-is_top.ensures) in
           at-token (operator k a) c.in-Close.is (settled l (joined k a), by_close is, fits_settled l (joined k a) _ _ _ _ (ap rest (there ∙ ap words_of is)) (ap rest known ∙ ap masks_of is) (ap top known) w.expect w.words w.masks);
     }
 
-pub returns-else-is-top : goal.returns-else-is-top
-returns-else-is-top c =
+pub returns-else-is_top : goal.returns-else-is_top
+returns-else-is_top c =
     let j = c.join-in-Close.ensures in
     record {
       kept = j.kept;
       took = λ k a f.
           let there : words_in c.join-in-Close.new.self ≡ words_of (outer k) = j.words ∙ ap join_words f.waiting ∙ joined_words k in
-          (refl, subst (Stuck (operator k a)) (sym c.in-Close.is) (close_stuck k a (ap (is_top Open) (sym there) ∙ sym c.if-is-top.ensures)));
+          (refl, subst (Stuck (operator k a)) (sym c.in-Close.is) (close_stuck k a (ap (is_top Open) (sym there) ∙ sym c.if-is_top.ensures)));
     }
 
-pub returns-in-default : goal.returns-in-default
-returns-in-default c = record { kept = as_before _; took = λ k a f. (refl, operator_stuck k a c.args.token.code c.in-default.not-And c.in-default.not-Or c.in-default.not-Close) }
+pub returns-in_default : goal.returns-in_default
+returns-in_default c = record { kept = as_before _; took = λ k a f. (refl, operator_stuck k a c.args.token.code c.in_default.not-And c.in_default.not-Or c.in_default.not-Close) }

@@ -12,13 +12,13 @@ left i h = omega arith
 pub loop-i-init : goal.loop-i-init
 loop-i-init c = (c.new-lexer.ensures.text, c.requires, prefixed-none _ ∙ ap (cut_from 64 c.args.text.now) c.new-lexer.ensures.place)
 
-pub returns-in-err-token : goal.returns-in-err-token
-returns-in-err-token c =
+pub returns-in_err-token : goal.returns-in_err-token
+returns-in_err-token c =
     let text = c.args.text.now in
     let lexer = c.loop-i.lexer in
     let inv = c.loop-i.invariant in
     let p = err_from_is_err_and c.from-residual.result c.from-residual.ensures.1 in
-    let sees = ap (λ l. look l (at lexer)) (sym inv.0) ∙ sym c.peek.ensures ∙ c.in-err-token.was in
+    let sees = ap (λ l. look l (at lexer)) (sym inv.0) ∙ sym c.peek.ensures ∙ c.in_err-token.was in
     rw p.1 (sym inv.2 ∙ cut_err text (at lexer) _ (64 - c.loop-i.i) (63 - c.loop-i.i) _ sees (left _ c.loop-i-test.true) ∙ ap Err (sym p.2))
 
 pub returns-in-None : goal.returns-in-None
@@ -26,7 +26,7 @@ returns-in-None c =
     let text = c.args.text.now in
     let lexer = c.loop-i.lexer in
     let inv = c.loop-i.invariant in
-    let sees = ap (λ l. look l (at lexer)) (sym inv.0) ∙ sym c.peek.ensures ∙ c.in-ok-token.was ∙ ap Ok c.in-None.is in
+    let sees = ap (λ l. look l (at lexer)) (sym inv.0) ∙ sym c.peek.ensures ∙ c.in_ok-token.was ∙ ap Ok c.in-None.is in
     (omega arith, sym inv.2 ∙ cut_none text (at lexer) _ (64 - c.loop-i.i) (63 - c.loop-i.i) sees (left _ c.loop-i-test.true))
 
 pub loop-i-preserved : goal.loop-i-preserved
@@ -35,7 +35,7 @@ loop-i-preserved c =
     let lexer = c.loop-i.lexer in
     let inv = c.loop-i.invariant in
     let i = c.loop-i.i in
-    let sees = ap (λ l. look l (at lexer)) (sym inv.0) ∙ sym c.peek.ensures ∙ c.in-ok-token.was ∙ ap Ok c.in-Some.is in
+    let sees = ap (λ l. look l (at lexer)) (sym inv.0) ∙ sym c.peek.ensures ∙ c.in_ok-token.was ∙ ap Ok c.in-Some.is in
     let next : at c.skip.new.self ≡ after text (at lexer) = c.skip.ensures.place ∙ ap (λ l. after l (at lexer)) inv.0 in
     let fewer : 64 - (i + 1) ≡ 63 - i = omega arith in (
       c.skip.ensures.text ∙ inv.0,
@@ -62,4 +62,4 @@ pub returns-in-Err : goal.returns-in-Err
 returns-in-Err c =
     let inv = c.loop-i.invariant in
     let sees = ap (λ l. look l (at c.loop-i.lexer)) (sym inv.0) ∙ sym c.in-Err.ensures in
-    sym inv.2 ∙ cut_end c.args.text.now (at c.loop-i.lexer) _ (64 - c.loop-i.i) (omega arith) ∙ ap (λ r. prefixed (take c.loop-i.i c.loop-i.tokens) (full r)) sees ∙ ap (λ k. Err (record { refusal = k; place = c.in-Err.e.place })) (sym c.lower-code.ensures)
+    sym inv.2 ∙ cut_end c.args.text.now (at c.loop-i.lexer) _ (64 - c.loop-i.i) (omega arith) ∙ ap (λ r. prefixed (take c.loop-i.i c.loop-i.tokens) (full r)) sees ∙ ap (λ k. Err (record { refusal = k; place = c.in-Err.e.place })) (sym c.lower_code.ensures)

@@ -18,7 +18,7 @@ loop-pattern-preserved c =
     let p = c.loop-pattern.pattern in
     let more = ap (packed f) (add-one p) in
     let shift = one_shl p 16 c.loop-pattern-test.true in
-    elim c.if-does-hold.branch [
-      | then-does-hold w ↦ omega (arith, w.mask-is, more, shift, ap (λ b. cond b (2 ^ p) 0) w.if-does-hold.ensures)
-      | else-does-hold w ↦ omega (arith, w.mask-is, more, ap (λ b. cond b (2 ^ p) 0) w.if-does-hold.ensures)
+    elim c.if-does_hold.branch [
+      | then-does_hold w ↦ omega (arith, w.mask-is, more, shift, ap (λ b. cond b (2 ^ p) 0) w.if-does_hold.ensures)
+      | else-does_hold w ↦ omega (arith, w.mask-is, more, ap (λ b. cond b (2 ^ p) 0) w.if-does_hold.ensures)
     ]

@@ -8,17 +8,17 @@ use Rattle.expressions.proofs.reads.read_tokens.Goals as goal
 pub loop-token-init : goal.loop-token-init
 loop-token-init c = (along_none c.args.tokens.now _ (ap (map (λ p. p.word)) c.new-pending.ensures.empty) c.new-answers.ensures.empty refl refl, omega (arith, c.new-pending.ensures.room), omega (arith, c.new-answers.ensures.room))
 
-pub returns-in-err-step : goal.returns-in-err-step
-returns-in-err-step c =
+pub returns-in_err-step : goal.returns-in_err-step
+returns-in_err-step c =
     let p = err_from_is_err_and c.from-residual.result c.from-residual.ensures.1 in
     let h = c.loop-token.invariant.0 in
-    let w = c.in-err-step.ensures.took h.state h.fits in
+    let w = c.in_err-step.ensures.took h.state h.fits in
     subst (λ x. Verdict x c.args.tokens.now c.args.end) (sym p.1) (fault_at c.args.tokens.now c.loop-token.token-index c.args.end c.loop-token.reader _ p.0 c.loop-token-test.true (get_d_any c.args.tokens.now c.loop-token.token-index _ _ c.loop-token-test.true) h (p.2 ∙ w.0) w.1)
 
 pub loop-token-preserved : goal.loop-token-preserved
 loop-token-preserved c =
     let h = c.loop-token.invariant.0 in
-    let w = c.in-ok-step.ensures in
+    let w = c.in_ok-step.ensures in
     (along_more c.args.tokens.now c.loop-token.token-index c.loop-token.reader c.step.new.self _ c.loop-token-test.true (get_d_any c.args.tokens.now c.loop-token.token-index _ _ c.loop-token-test.true) h (w.took h.state h.fits) w.named, omega (arith, w.pending), omega (arith, w.answers))
 
 pub returns : goal.returns

@@ -12,11 +12,11 @@ use Rattle.histories.proofs.supposed.value_supposing.Goals as goal
 through : (seen held : InForce) (o : Option ℕ) (t : SeatTable) (n : ℕ) → seen ≡ held → held.supposed ≡ o → held.table ≡ t → held.elapsed ≡ n → shown_book seen ≡ running (as_supposed o t.seats) n
 through seen held o t n e p q r = ap shown_book e ∙ (λ i. running (as_supposed (p i) (q i).seats) (r i))
 
-pub returns-in-err-valuation : goal.returns-in-err-valuation
-returns-in-err-valuation c =
+pub returns-in_err-valuation : goal.returns-in_err-valuation
+returns-in_err-valuation c =
     let s = c.suppose-guard.ensures in
     let b = through _ _ _ _ _ c.case.ensures s.supposed s.table s.elapsed in
-    let v = c.value.ensures ∙ ap (λ (k : Book). valued_by k c.args.benefit.now c.args.rate c.args.route) b in
+    let v = c.value_by.ensures ∙ ap (λ (k : Book). valued_by k c.args.benefit.now c.args.rate c.args.route) b in
     record { same = search (rules, same_case); value = search rules }
 
 pub returns : goal.returns
@@ -25,5 +25,5 @@ returns c =
     let b = through _ _ _ _ _ c.case.ensures s.supposed s.table s.elapsed in
     record {
       same = search (rules, same_case);
-      value = sym c.in-ok-valuation.was ∙ c.value.ensures ∙ ap (λ (k : Book). valued_by k c.args.benefit.now c.args.rate c.args.route) b;
+      value = sym c.in_ok-valuation.was ∙ c.value_by.ensures ∙ ap (λ (k : Book). valued_by k c.args.benefit.now c.args.rate c.args.route) b;
     }

@@ -17,7 +17,7 @@ overflow-cast-set c = record { fits = omega (arith, ones_le seats c.loop-set.set
 pub overflow-add-sum : goal.overflow-add-sum
 overflow-add-sum c =
     let x = c.args.exposures.now in
-    let e = c.set-product-sum.ensures.value ∙ sym (members_yes x.seats seats c.args.members c.loop-set.set c.loop-set-test.true c.if-set-members.true) in
+    let e = c.set_product-sum.ensures.value ∙ sym (members_yes x.seats seats c.args.members c.loop-set.set c.loop-set-test.true c.if-set-members.true) in
     record { fits = omega (arith, ap₂ ◌+◌ c.loop-set.invariant e, members_part x.seats seats c.args.members x.long x.sound c.loop-set.set c.loop-set-test.true, x.small) }
 
 pub loop-set-preserved : goal.loop-set-preserved
@@ -25,7 +25,7 @@ loop-set-preserved c =
     let x = c.args.exposures.now in
     let next = sym (below_next ◌+◌ 0 (members_term x.seats seats c.args.members) c.loop-set.set) in
     elim c.if-set-members.branch [
-      | then-set-members w ↦ w.sum-is ∙ ap₂ ◌+◌ c.loop-set.invariant (w.set-product-sum.ensures.value ∙ sym (members_yes x.seats seats c.args.members c.loop-set.set c.loop-set-test.true w.if-set-members.true)) ∙ next
+      | then-set-members w ↦ w.sum-is ∙ ap₂ ◌+◌ c.loop-set.invariant (w.set_product-sum.ensures.value ∙ sym (members_yes x.seats seats c.args.members c.loop-set.set c.loop-set-test.true w.if-set-members.true)) ∙ next
       | else-set-members w ↦ w.sum-is ∙ sym (add-zero c.loop-set.sum) ∙ ap₂ ◌+◌ c.loop-set.invariant (sym (members_no x.seats seats c.args.members c.loop-set.set c.loop-set-test.true w.if-set-members.false)) ∙ next
     ]
 

@@ -14,8 +14,8 @@ use Rattle.routes.proofs.by_number.is_even.Goals.{then-p-named+else-shares-p, el
 pub overflow-cast-p : goal.overflow-cast-p
 overflow-cast-p c = record { fits = omega (arith, ones_le seats c.loop-p.p c.loop-p-test.true) }
 
-pub offset-bounds-by-number-p : goal.offset-bounds-by-number-p
-offset-bounds-by-number-p c = record { fits = omega (arith, ones_le seats c.loop-p.p c.loop-p-test.true) }
+pub offset-bounds-by_number-p : goal.offset-bounds-by_number-p
+offset-bounds-by_number-p c = record { fits = omega (arith, ones_le seats c.loop-p.p c.loop-p-test.true) }
 
 pub returns-then-shares-p : goal.returns-then-shares-p
 returns-then-shares-p c =
@@ -23,7 +23,7 @@ returns-then-shares-p c =
     let N = c.args.named in
     let p = c.loop-p.p in
     let h = c.loop-p-test.true in
-    let here = c.shares-by-number-by-number.ensures (ones p) ∙ ap (share_with seats f N) (ones_size seats p h) in
+    let here = c.shares_by_number-by_number.ensures (ones p) ∙ ap (share_with seats f N) (ones_size seats p h) in
     let clash = other_uneven seats f N p h (inside-yes seats N p h c.if-p-named.true) (λ e. c.if-shares-p.true (e ∙ sym here)) in
     record {
       answer = sym (ap not clash);
@@ -39,7 +39,7 @@ loop-p-preserved c =
     let h = c.loop-p-test.true in
     let here : T (within (flags seats p) (flags seats N)) → f p ≡ share_with seats f N (size (flags seats p)) =
     elim c.if-p-named.branch [
-      | then-p-named+else-shares-p w ↦ λ t. w.if-shares-p.false ∙ c.shares-by-number-by-number.ensures (ones p) ∙ ap (share_with seats f N) (ones_size seats p h)
+      | then-p-named+else-shares-p w ↦ λ t. w.if-shares-p.false ∙ c.shares_by_number-by_number.ensures (ones p) ∙ ap (share_with seats f N) (ones_size seats p h)
       | else-p-named w ↦ λ t. absurd (subst T (inside_no seats N p h w.if-p-named.false) t)
     ] in
     below_more _ _ c.loop-p.invariant here

@@ -14,26 +14,26 @@ pub loop-set-init : goal.loop-set-init
 loop-set-init c = sym (below_none ◌+ℤ◌ (pos 0) _)
 
 -- the two factors of a turn, read back from their bits
-left : (c : goal.After-set-product) → to_z w64 (of_z w64 c.set-difference.result) ≡ c.set-difference.result
-left c = read c.set-difference.result (omega (arith, c.set-difference.ensures.bound))
+left : (c : goal.After-set_product) → to_z w64 (of_z w64 c.set_difference.result) ≡ c.set_difference.result
+left c = read c.set_difference.result (omega (arith, c.set_difference.ensures.bound))
 
-right : (c : goal.After-set-product) → to_z w64 c.set-product.result ≡ pos c.set-product.result
-right c = to_z_pos w64 c.set-product.result (omega (arith, c.set-product.ensures.bound, c.args.exposures.now.small))
+right : (c : goal.After-set_product) → to_z w64 c.set_product.result ≡ pos c.set_product.result
+right c = to_z_pos w64 c.set_product.result (omega (arith, c.set_product.ensures.bound, c.args.exposures.now.small))
 
-product_small : (c : goal.After-set-product) → nat_abs (c.set-difference.result *ℤ pos c.set-product.result) ≤ 9 * 10 ^ 18
+product_small : (c : goal.After-set_product) → nat_abs (c.set_difference.result *ℤ pos c.set_product.result) ≤ 9 * 10 ^ 18
 product_small c =
-    le_trans (le_of_eq (abs_times c.set-difference.result c.set-product.result))
-    (le_trans (mul-le-mul c.set-difference.ensures.bound (le_trans c.set-product.ensures.bound c.args.exposures.now.small)) (omega arith))
+    le_trans (le_of_eq (abs_times c.set_difference.result c.set_product.result))
+    (le_trans (mul-le-mul c.set_difference.ensures.bound (le_trans c.set_product.ensures.bound c.args.exposures.now.small)) (omega arith))
 
 pub overflow-mul-sum : goal.overflow-mul-sum
 overflow-mul-sum c = fits_known ◌*ℤ◌ (left c) (right c) (product_small c)
 
-added : (c : goal.After-set-product) → to_z w64 (of_z w64 (to_z w64 (of_z w64 c.set-difference.result) *ℤ to_z w64 c.set-product.result))
+added : (c : goal.After-set_product) → to_z w64 (of_z w64 (to_z w64 (of_z w64 c.set_difference.result) *ℤ to_z w64 c.set_product.result))
     ≡ set_term c.args.exposures.now.seats seats (λ q. get_or c.args.shares.now.twentieths q 0) c.loop-set.set
 unfolding set_term
-added c = read_known ◌*ℤ◌ (left c) (right c) (product_small c) ∙ ap₂ (λ (d : ℤ) (n : ℕ). d *ℤ pos n) c.set-difference.ensures.value c.set-product.ensures.value
+added c = read_known ◌*ℤ◌ (left c) (right c) (product_small c) ∙ ap₂ (λ (d : ℤ) (n : ℕ). d *ℤ pos n) c.set_difference.ensures.value c.set_product.ensures.value
 
-small : (c : goal.After-set-product) → nat_abs (below ◌+ℤ◌ (pos 0) c.loop-set.set (set_term c.args.exposures.now.seats seats (λ q. get_or c.args.shares.now.twentieths q 0)) +ℤ set_term c.args.exposures.now.seats seats (λ q. get_or c.args.shares.now.twentieths q 0) c.loop-set.set) ≤ 9 * 10 ^ 18
+small : (c : goal.After-set_product) → nat_abs (below ◌+ℤ◌ (pos 0) c.loop-set.set (set_term c.args.exposures.now.seats seats (λ q. get_or c.args.shares.now.twentieths q 0)) +ℤ set_term c.args.exposures.now.seats seats (λ q. get_or c.args.shares.now.twentieths q 0) c.loop-set.set) ≤ 9 * 10 ^ 18
 small c =
     let x = c.args.exposures.now in
     let s = c.args.shares.now in
@@ -45,8 +45,8 @@ overflow-add-sum c = fits_known ◌+ℤ◌ c.loop-set.invariant (added c) (small
 pub loop-set-preserved : goal.loop-set-preserved
 loop-set-preserved c = read_known ◌+ℤ◌ c.loop-set.invariant (added c) (small c) ∙ sym (below_next ◌+ℤ◌ (pos 0) _ c.loop-set.set)
 
-pub weight-of-requires : goal.weight-of-requires
-weight-of-requires c =
+pub weight_of-requires : goal.weight_of-requires
+weight_of-requires c =
     let x = c.args.exposures.now in
     let s = c.args.shares.now in
     let e : c.loop-set.set ≡ patterns = omega arith in
@@ -61,5 +61,5 @@ returns c =
     let x = c.args.exposures.now in
     let s = c.args.shares.now in
     let e : c.loop-set.set ≡ patterns = omega arith in
-    let z = c.weight-of.ensures.weight ∙ sets_done x.seats seats (λ q. get_or s.twentieths q 0) x.long _ c.loop-set.set c.loop-set.invariant e in
-    record { route = z; sum = ap nat_abs (z ∙ subsets x.seats (λ P. get_or s.twentieths (number P) 0) x.sound); full = c.weight-of.ensures.full }
+    let z = c.weight_of.ensures.weight ∙ sets_done x.seats seats (λ q. get_or s.twentieths q 0) x.long _ c.loop-set.set c.loop-set.invariant e in
+    record { route = z; sum = ap nat_abs (z ∙ subsets x.seats (λ P. get_or s.twentieths (number P) 0) x.sound); full = c.weight_of.ensures.full }

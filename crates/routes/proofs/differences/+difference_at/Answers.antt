@@ -7,18 +7,18 @@ use Rattle.routes.proofs.Deltas.{Δ-first, Δ-step, Δ_small}
 use Rattle.routes.proofs.differences.+difference_at.Goals as goal
 
 -- the two lower differences, read back from their bits
-module _ (t : ℕ) (c : goal.After-difference-at-else-order-eq0 t) where
+module _ (t : ℕ) (c : goal.After-difference_at-else-order-eq0 t) where
   abbrev f : ℕ → ℕ
   f = λ i. get_or c.args.shares.now.twentieths i 0
 
   abbrev j : ℕ
   j = c.args.order
 
-  further : to_z w64 (of_z w64 c.difference-at.result) ≡ Δ (j - 1) f (c.args.k + 1)
-  further = to_z-of_z w64 c.difference-at.result (record { sfits = c.difference-at.type-inv }) ∙ c.difference-at.ensures
+  further : to_z w64 (of_z w64 c.difference_at.result) ≡ Δ (j - 1) f (c.args.k + 1)
+  further = to_z-of_z w64 c.difference_at.result (record { sfits = c.difference_at.type-inv }) ∙ c.difference_at.ensures
 
-  here : to_z w64 (of_z w64 c.difference-at-else-order-eq0.result) ≡ Δ (j - 1) f c.args.k
-  here = to_z-of_z w64 c.difference-at-else-order-eq0.result (record { sfits = c.difference-at-else-order-eq0.type-inv }) ∙ c.difference-at-else-order-eq0.ensures
+  here : to_z w64 (of_z w64 c.difference_at-else-order-eq0.result) ≡ Δ (j - 1) f c.args.k
+  here = to_z-of_z w64 c.difference_at-else-order-eq0.result (record { sfits = c.difference_at-else-order-eq0.type-inv }) ∙ c.difference_at-else-order-eq0.ensures
 
   step : Δ j f c.args.k ≡ Δ (j - 1) f (c.args.k + 1) -ℤ Δ (j - 1) f c.args.k
   step = Δ-step j f c.args.k (omega arith)

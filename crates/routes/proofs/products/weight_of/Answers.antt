@@ -9,7 +9,7 @@ use Rattle.routes.proofs.products.weight_of.Goals as goal
 pub invariant-of-result : goal.invariant-of-result
 invariant-of-result c =
     let x = c.args.exposures.now in
-    let full : c.set-product.result ≡ D x.seats = c.set-product.ensures.value ∙ product-none x.seats _ x.long in
+    let full : c.set_product.result ≡ D x.seats = c.set_product.ensures.value ∙ product-none x.seats _ x.long in
     let weight : nat_abs (to_z w64 (of_z w64 c.args.sum)) ≡ nat_abs c.args.sum = ap nat_abs (to_z-of_z w64 c.args.sum c.ranges.sum) in
     (omega (arith, D_pos x.seats x.present), (omega (arith, x.small), (omega (arith, c.requires.part), tt)))
 
@@ -18,5 +18,5 @@ returns c =
     let x = c.args.exposures.now in
     record {
       weight = ap (λ (z : ℤ). pos (nat_abs z)) (to_z-of_z w64 c.args.sum c.ranges.sum) ∙ sym c.requires.whole;
-      full = ap (λ (n : ℕ). 20 * n) (c.set-product.ensures.value ∙ product-none x.seats _ x.long);
+      full = ap (λ (n : ℕ). 20 * n) (c.set_product.ensures.value ∙ product-none x.seats _ x.long);
     }

@@ -12,17 +12,17 @@ use Rattle.runs.specs.declared.outcome.Ending.TheVariants.{Whole, Full}
 use Rattle.runs.proofs.Running.{run_stops, run-full, run_on, run_endless, run_whole, after-after, written_on, room_left, cut_line}
 use Rattle.runs.proofs.told.run_lines.Goals as goal
 
-pub returns-in-default : goal.returns-in-default
-returns-in-default c =
+pub returns-in_default : goal.returns-in_default
+returns-in_default c =
     let h = c.loop-rest.invariant in
     let room = length c.loop-rest.output.area.now - c.loop-rest.output.len in
     record {
       lent = h.2;
-      runs = (h.3.0, h.3.1, h.3.2 _ (run_endless (state_of c.loop-rest.session) c.loop-rest.line room c.loop-rest.rest.now (search rules) c.in-default.ensures));
+      runs = (h.3.0, h.3.1, h.3.2 _ (run_endless (state_of c.loop-rest.session) c.loop-rest.line room c.loop-rest.rest.now (search rules) c.in_default.ensures));
     }
 
-pub returns-in-err-said : goal.returns-in-err-said
-returns-in-err-said c =
+pub returns-in_err-said : goal.returns-in_err-said
+returns-in_err-said c =
     let h = c.loop-rest.invariant in
     let b = c.loop-rest.output.area.now in
     let s = state_of c.loop-rest.session in
@@ -31,7 +31,7 @@ returns-in-err-said c =
     let i = c.in-Some.end in
     let line = take (i - 0) rest in
     let left = take (length rest - (i + 1)) (drop (i + 1) rest) in
-    let z = c.in-err-said.field-0.0 in
+    let z = c.in_err-said.field-0.0 in
     let f : c.step.result ≡ Err z.fault = search rules in
     let n : z.number ≡ c.loop-rest.line = search rules in
     let l : Lined line s (Err z.fault) = subst (λ r. Lined line s (done_by r (state_of c.step.new.self))) f c.step.ensures.lined in
@@ -54,7 +54,7 @@ returns-then-not-speak c =
     let i = c.in-Some.end in
     let line = take (i - 0) rest in
     let left = take (length rest - (i + 1)) (drop (i + 1) rest) in
-    let said = c.in-ok-said.said in
+    let said = c.in_ok-said.said in
     let t = state_of c.step.new.self in
     let f : c.step.result ≡ Ok said = search rules in
     let l : Lined line s (Ok (record { state = t; said = said })) = subst (λ r. Lined line s (done_by r t)) f c.step.ensures.lined in
@@ -81,7 +81,7 @@ loop-rest-preserved c =
     let i = c.in-Some.end in
     let line = take (i - 0) rest in
     let left = take (length rest - (i + 1)) (drop (i + 1) rest) in
-    let said = c.in-ok-said.said in
+    let said = c.in_ok-said.said in
     let t = state_of c.step.new.self in
     let f : c.step.result ≡ Ok said = search rules in
     let l : Lined line s (Ok (record { state = t; said = said })) = subst (λ r. Lined line s (done_by r t)) f c.step.ensures.lined in

@@ -8,18 +8,18 @@ use Rattle.schemes.specs.Enrolment.{answer_of, after, adjusted}
 use Rattle.schemes.proofs.Enrolments.{same_counts, call_answer, call-after, enrolled_is, enrolled_not}
 use Rattle.schemes.proofs.enrolment.enrol_adjusted.Goals as goal
 
-pub returns-in-err-scale-all : goal.returns-in-err-scale-all
-returns-in-err-scale-all g c =
+pub returns-in_err-scale_all : goal.returns-in_err-scale_all
+returns-in_err-scale_all g c =
     let b = enrolling_book c.args.case.now in
-    let n = c.in-err-scale-all.ensures in
+    let n = c.in_err-scale_all.ensures in
     let e = sym (enrolled_not (g.B.Life.count c.args.basis) c.args.seat c.args.aged c.args.factor b n.1) in
     let p = err_from_is_err_and c.from-residual.result c.from-residual.ensures.1 in
     record { answer = p.1 ∙ ap (λ x. Err x) (p.2 ∙ n.0) ∙ ap answer_of e; after = ap (λ r. after r b) e }
 
 pub returns : goal.returns
 returns g c =
-    let x = c.scale-all.new.self in
-    let n = c.in-ok-scale-all.ensures in
+    let x = c.scale_all.new.self in
+    let n = c.in_ok-scale_all.ensures in
     let whole = n.1 ∙ c.new-life.ensures.0 in
     let same = same_counts g.B.Life.count x.life.life c.args.basis x.life.by (min c.args.aged year_count) x.factors (replicate year_count c.args.factor)
     (ap (λ a. a.life) whole ∙ c.new.ensures.0) (ap (λ a. a.by) whole ∙ c.new.ensures.1) n.2 in

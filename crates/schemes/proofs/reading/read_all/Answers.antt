@@ -12,12 +12,12 @@ pub loop-left-preserved : goal.loop-left-preserved
 loop-left-preserved c =
     let h = c.loop-left.invariant in
     let all = h.0 in
-    let n = c.in-ok-n.n in
+    let n = c.in_ok-n.n in
     let f = c.cut.result.0.now in
     let g = get_or-take most all 1 0 (omega arith) in
     let b = c.at.ensures ∙ ap (λ xs. get_or xs 1 0) h.2 ∙ g in
-    let s : c.shape-of.result ≡ shape c.args.kind (length all) (get_or all 1 0) = c.shape-of.ensures ∙ (λ j. shape c.args.kind (h.1 j) (b j)) in
-    let r : read (shape c.args.kind (length all) (get_or all 1 0)) c.loop-left.place f ≡ Ok n = ap (λ z. read z c.loop-left.place f) (sym s) ∙ sym c.in-ok-n.ensures in (
+    let s : c.shape_of.result ≡ shape c.args.kind (length all) (get_or all 1 0) = c.shape_of.ensures ∙ (λ j. shape c.args.kind (h.1 j) (b j)) in
+    let r : read (shape c.args.kind (length all) (get_or all 1 0)) c.loop-left.place f ≡ Ok n = ap (λ z. read z c.loop-left.place f) (sym s) ∙ sym c.in_ok-n.ensures in (
       all ++ (n ∷ []),
       omega (arith, h.1, length_push all n),
       c.push.ensures ∙ ap (λ xs. take most (xs ++ (n ∷ []))) h.2 ∙ pushed_on all n,

@@ -12,8 +12,8 @@ loop-i-init c =
     let e : length s.twentieths ≡ 2 ^ length x.seats = s.long ∙ sym (ap (λ (n : ℕ). 2 ^ n) x.long) in
     (s.long, subst (λ (n : ℕ). Left x.seats s.twentieths seats n s.twentieths 20) s.long (left_first x.seats s.twentieths seats (omega (arith, x.long)) e s.most))
 
-pub sum-out-requires : goal.sum-out-requires
-sum-out-requires c =
+pub sum_out-requires : goal.sum_out-requires
+sum_out-requires c =
     let x = c.args.exposures.now in
     let one : c.loop-i.i ≡ c.loop-i.i - 1 + 1 = omega arith in
     let l = subst (λ (n : ℕ). Left x.seats c.args.shares.now.twentieths n c.loop-i.left c.loop-i.sums c.loop-i.full) one c.loop-i.invariant.1 in
@@ -38,8 +38,8 @@ loop-i-preserved c =
     let one : c.loop-i.i ≡ c.loop-i.i - 1 + 1 = omega arith in
     let l = subst (λ (n : ℕ). Left x.seats c.args.shares.now.twentieths n c.loop-i.left c.loop-i.sums c.loop-i.full) one c.loop-i.invariant.1 in
     let h : c.loop-i.i - 1 < length x.seats = omega (arith, x.long) in
-    let e : length c.sum-out.new.sums ≡ length c.loop-i.sums = c.sum-out.auto.sums in
-    (e ∙ c.loop-i.invariant.0, left_next l h x.sound c.sum-out.new.sums e c.sum-out.ensures)
+    let e : length c.sum_out.new.sums ≡ length c.loop-i.sums = c.sum_out.auto.sums in
+    (e ∙ c.loop-i.invariant.0, left_next l h x.sound c.sum_out.new.sums e c.sum_out.ensures)
 
 pub invariant-of-result : goal.invariant-of-result
 invariant-of-result c =

@@ -7,7 +7,7 @@ pub of-requires : goal.of-requires
 of-requires c =
     record {
       priced = (omega arith, omega arith);
-      seats = few_named c.in-ok-sums.ensures;
-      most = c.if-is-within-full.ensures.yes refl;
-      own = added_own c.in-ok-sums.ensures;
+      seats = few_named c.in_ok-sums.ensures;
+      most = c.if-is_within_full.ensures.yes refl;
+      own = added_own c.in_ok-sums.ensures;
     }

@@ -1,4 +1,4 @@
--- The needs of `exposures`.
+-- The needs of `exposures_shown`.
 use Rattle.std.proofs.Common.{◌≡◌, ℕ, ◌^◌, ◌<◌, ◌≤◌, List, sym, ap, ◌∙◌, subst, arith}
 use Rattle.weights.specs.declared.exposure.Exposure.{Exposure}
 use Rattle.weights.specs.Exposures.{Sound, Present, D}
@@ -9,7 +9,7 @@ use Rattle.cases.specs.Views.{shown_book}
 use Rattle.cases.specs.Weighing.{exposures_for}
 use Rattle.cases.proofs.Supposed.{shown_columns, shown_within}
 use Rattle.cases.proofs.Weighings.{held_found, held_sound, held-present, held_small}
-use Rattle.cases.proofs.inforce.InForce.exposures.Goals as goal
+use Rattle.cases.proofs.inforce.InForce.exposures_shown.Goals as goal
 
 pub invariant-of-result : goal.invariant-of-result
 invariant-of-result c =

@@ -12,5 +12,5 @@ returns c =
     let me = c.args.self.now in
     let b = shown_book me in
     let x = c.args.benefit.now in
-    let e = c.symmetric-sum.ensures ∙ ap (λ (xs : List Exposure). S xs c.args.members) c.exposures.ensures ∙ symmetric_is b (shown_columns me) (shown_within me) x c.args.year c.args.members in
+    let e = c.symmetric_sum.ensures ∙ ap (λ (xs : List Exposure). S xs c.args.members) c.exposures_shown.ensures ∙ symmetric_is b (shown_columns me) (shown_within me) x c.args.year c.args.members in
     record { value = search rules; past = λ h. e ∙ symmetric-none b (shown_columns me) (shown_within me) x c.args.year c.args.members h }

@@ -11,10 +11,10 @@ pub loop-seat-init : goal.loop-seat-init
 loop-seat-init c = any_empty (vacant_at (shown_book c.args.self.now) c.named-named.result)
 
 pub loop-seat-preserved : goal.loop-seat-preserved
-loop-seat-preserved c = any_past (vacant_at (shown_book c.args.self.now) c.named-named.result) c.loop-seat.seat c.loop-seat.invariant (sym c.vacant.ensures ∙ c.if-vacant.false)
+loop-seat-preserved c = any_past (vacant_at (shown_book c.args.self.now) c.named-named.result) c.loop-seat.seat c.loop-seat.invariant (sym c.vacant_shown.ensures ∙ c.if-vacant_shown.false)
 
-pub returns-then-vacant : goal.returns-then-vacant
-returns-then-vacant c =
+pub returns-then-vacant_shown : goal.returns-then-vacant_shown
+returns-then-vacant_shown c =
     let test = λ (N : ℕ). vacant_at (shown_book c.args.self.now) N in
-    let found : any_to seats (test c.args.benefit.now.named) ≡ true = ap (λ (N : ℕ). any_to seats (test N)) (sym c.named-named.ensures) ∙ any_found (test c.named-named.result) seats c.loop-seat.seat c.loop-seat-test.true (sym c.vacant.ensures ∙ c.if-vacant.true) in
+    let found : any_to seats (test c.args.benefit.now.named) ≡ true = ap (λ (N : ℕ). any_to seats (test N)) (sym c.named-named.ensures) ∙ any_found (test c.named-named.result) seats c.loop-seat.seat c.loop-seat-test.true (sym c.vacant_shown.ensures ∙ c.if-vacant_shown.true) in
     search rules

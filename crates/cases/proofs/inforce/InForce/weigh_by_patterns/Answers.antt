@@ -15,7 +15,7 @@ returns c =
     let x = c.args.benefit.now in
     let t = c.args.year in
     let seats = c.exposures.ensures in (
-      sym c.in-ok-test-weigh.ensures,
+      sym c.in_ok-test_weigh.ensures,
       c.by_patterns.ensures.weight ∙ (λ i. by_patterns (seats i) (λ P. get_or (c.shares.ensures i).twentieths (number P) 0)) ∙ weight_is b me.columns x t,
       c.by_patterns.ensures.full ∙ ap (λ (xs : List Exposure). 20 * D xs) seats ∙ full_is b me.columns x t,
     )

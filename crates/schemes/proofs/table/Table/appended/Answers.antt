@@ -13,18 +13,18 @@ returns-then-more-len c =
 
 pub list-requires : goal.list-requires
 list-requires c =
-    (placed c.args.self.counts c.args.more.now c.copy-from-slice.new.self c.args.self.len _ (omega arith) (omega arith) (omega arith) c.copy-from-slice.ensures.after).within
+    (placed c.args.self.counts c.args.more.now c.copy_from_slice.new.self c.args.self.len _ (omega arith) (omega arith) (omega arith) c.copy_from_slice.ensures.after).within
 
 pub returns-then-fair : goal.returns-then-fair
 returns-then-fair c =
-    let w = placed c.args.self.counts c.args.more.now c.copy-from-slice.new.self c.args.self.len _ (omega arith) (omega arith) (omega arith) c.copy-from-slice.ensures.after in
+    let w = placed c.args.self.counts c.args.more.now c.copy_from_slice.new.self c.args.self.len _ (omega arith) (omega arith) (omega arith) c.copy_from_slice.ensures.after in
     let l = c.list.ensures ∙ w.front in
     let f : c.fair.result ≡ true = c.if-fair.true in
     (ap fairly (sym l) ∙ sym c.fair.ensures.answer ∙ f, w.front, w.long ∙ c.requires.0, search rules)
 
 pub returns-else-fair : goal.returns-else-fair
 returns-else-fair c =
-    let w = placed c.args.self.counts c.args.more.now c.copy-from-slice.new.self c.args.self.len _ (omega arith) (omega arith) (omega arith) c.copy-from-slice.ensures.after in
+    let w = placed c.args.self.counts c.args.more.now c.copy_from_slice.new.self c.args.self.len _ (omega arith) (omega arith) (omega arith) c.copy_from_slice.ensures.after in
     let l = c.list.ensures ∙ w.front in
     let f : c.fair.result ≡ false = c.if-fair.false in
     ap fairly (sym l) ∙ sym c.fair.ensures.answer ∙ f

@@ -46,13 +46,13 @@ module _ (ls : List Exposure) (N : ℕ) where
   unfolding set_difference difference
   difference_is f j = bridgeℤ n (λ p P. sign (flags n j) P *ℤ pos (f p))
 
-  subset_term : (f : ℕ → ℕ) (j : ℕ) → subset_term ls N f j ≡ difference n (λ P. f (number P)) (flags n j) *ℤ pos (times counted standing held (flags n j))
-  subset_term f j = chosenℤ (inside ls N j) (set_difference n f j) (set_product ls N j) ∙ ap₂ (λ (d : ℤ) (m : ℕ). d *ℤ pos m) (difference_is f j) (product-kept counted standing refl refl ls N j)
+  subset_term_is : (f : ℕ → ℕ) (j : ℕ) → subset_term ls N f j ≡ difference n (λ P. f (number P)) (flags n j) *ℤ pos (times counted standing held (flags n j))
+  subset_term_is f j = chosenℤ (inside ls N j) (set_difference n f j) (set_product ls N j) ∙ ap₂ (λ (d : ℤ) (m : ℕ). d *ℤ pos m) (difference_is f j) (product-kept counted standing refl refl ls N j)
 
-  by_subsets : (f : ℕ → ℕ) → below ◌+ℤ◌ (pos 0) (2 ^ n) (subset_term ls N f) ≡ by_subsets held (λ P. f (number P))
+  subsets_are : (f : ℕ → ℕ) → below ◌+ℤ◌ (pos 0) (2 ^ n) (subset_term ls N f) ≡ by_subsets held (λ P. f (number P))
   unfolding by_subsets
-  by_subsets f =
-      below-same ◌+ℤ◌ (pos 0) (2 ^ n) _ (λ j. difference n (λ P. f (number P)) (flags n j) *ℤ pos (times counted standing held (flags n j))) (subset_term f)
+  subsets_are f =
+      below-same ◌+ℤ◌ (pos 0) (2 ^ n) _ (λ j. difference n (λ P. f (number P)) (flags n j) *ℤ pos (times counted standing held (flags n j))) (subset_term_is f)
       ∙ bridgeℤ n (λ j J. difference n (λ P. f (number P)) J *ℤ pos (times counted standing held J))
       ∙ ap (λ (k : ℕ). all ◌+ℤ◌ k (λ J. difference k (λ P. f (number P)) J *ℤ pos (times counted standing held J))) (sym (length-kept (flags n N) ls))
 
@@ -108,7 +108,7 @@ route_past N ls c m (suc d) h =
 -- ---- the routes agree
 module _ (ls : List Exposure) (N : ℕ) (f : ℕ → ℕ) (s : Sound (kept (flags (length ls) N) ls)) where
   pub subsets_agree : below ◌+ℤ◌ (pos 0) (2 ^ length ls) (subset_term ls N f) ≡ pos (weight ls N f)
-  subsets_agree = by_subsets ls N f ∙ subsets (held ls N) (λ P. f (number P)) s ∙ ap pos (weight-kept ls N f)
+  subsets_agree = subsets_are ls N f ∙ subsets (held ls N) (λ P. f (number P)) s ∙ ap pos (weight-kept ls N f)
 
   -- the share by number, where they are even
   pub numbers_agree : uneven (length ls) f N ≡ false → by_patterns (kept (flags (length ls) N) ls) (λ P. share_with (length ls) f N (size P)) ≡ weight ls N f
@@ -143,7 +143,7 @@ module _ (ls : List Exposure) (N : ℕ) (f : ℕ → ℕ) (s : Sound (kept (flag
   pub subsets_way : (m : ℕ) → m ≤ 2 ^ length ls → nat_abs (below ◌+ℤ◌ (pos 0) m (subset_term ls N f)) ≤ reach (length ls) * D (kept (flags (length ls) N) ls)
   subsets_way m hm =
       let Q : ℕ → Type 0 = λ n. m ≤ 2 ^ n → 2 * nat_abs (below ◌+ℤ◌ (pos 0) m (λ j. difference n (λ P. f (number P)) (flags n j) *ℤ pos (times counted standing (held ls N) (flags n j)))) ≤ 20 * (3 ^ busy (held ls N) + 1) * D (held ls N) in
-      le_trans (le_of_eq (ap nat_abs (below-same ◌+ℤ◌ (pos 0) m _ _ (subset_term ls N f))))
+      le_trans (le_of_eq (ap nat_abs (below-same ◌+ℤ◌ (pos 0) m _ _ (subset_term_is ls N f))))
       (reaches (busy (held ls N)) (length ls) (D (held ls N)) _ few
       (subst Q (length-kept (flags (length ls) N) ls) (subsets_bound 20 (held ls N) (λ P. f (number P)) m s (λ P. most (number P))) hm))
 

@@ -3,13 +3,13 @@ use Rattle.std.proofs.Common.{◌≡◌, ℕ, ◌+◌, ◌*◌, ◌/◌, ◌%◌
 use Rattle.annuities.proofs.Decimals.{no_digit, all_rest, all_of, next_digit, next_rest, digits_below}
 use Rattle.annuities.proofs.cuts.probability.Goals as goal
 
-pub overflow-mul-part : goal.overflow-mul-part
-overflow-mul-part c =
+pub overflow_mul-part : goal.overflow_mul-part
+overflow_mul-part c =
     let w = c.args.weight.now in
     record { fits = omega (arith, c.loop-place.invariant.0, digits_below w.weight w.full c.loop-place.-place w.part (omega arith)) }
 
-pub overflow-add-part : goal.overflow-add-part
-overflow-add-part c =
+pub overflow_add-part : goal.overflow_add-part
+overflow_add-part c =
     let w = c.args.weight.now in
     let e = ap₂ (λ (q r : ℕ). q * 10 + r * 10 / w.full) c.loop-place.invariant.0 c.loop-place.invariant.1 ∙ next_digit w.weight w.full c.loop-place.-place w.some in
     record { fits = omega (arith, e, digits_below w.weight w.full (c.loop-place.-place + 1) w.part (omega arith)) }

@@ -6,8 +6,8 @@ use Rattle.expressions.proofs.Packs.{packed_lt}
 use Rattle.expressions.proofs.groups.group_mask.Goals as goal
 use Rattle.expressions.proofs.groups.group_mask.Goals.{then-does-hold, else-does-hold}
 
-pub overflow-add-mask : goal.overflow-add-mask
-overflow-add-mask c =
+pub overflow_add-mask : goal.overflow_add-mask
+overflow_add-mask c =
     let p = c.loop-pattern.pattern in
     let most : 2 ^ suc p ≤ 2 ^ 16 = pow_mono c.loop-pattern-test.true in
     omega (arith, one_shl p 16 c.loop-pattern-test.true, packed_lt (group_holds c.args.group c.args.set) p, pow-suc 2 p, most)

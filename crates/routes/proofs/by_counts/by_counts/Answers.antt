@@ -36,11 +36,11 @@ term_small c =
     let s = c.args.shares.now in
     omega (arith, order_small x.seats (λ i. get_or s.twentieths i 0) seats x.long x.sound s.most c.loop-j.j, x.small)
 
-pub overflow-cast-sum : goal.overflow-cast-sum
-overflow-cast-sum c = fits_abs (pos c.symmetric_sum.result) (omega (arith, S_small c))
+pub overflow_cast-sum : goal.overflow_cast-sum
+overflow_cast-sum c = fits_abs (pos c.symmetric_sum.result) (omega (arith, S_small c))
 
-pub overflow-mul-sum : goal.overflow-mul-sum
-overflow-mul-sum c = fits_known ◌*ℤ◌ (left c) (right c) (term_small c)
+pub overflow_mul-sum : goal.overflow_mul-sum
+overflow_mul-sum c = fits_known ◌*ℤ◌ (left c) (right c) (term_small c)
 
 added : (c : goal.After-symmetric_sum) → to_z w64 (of_z w64 (to_z w64 (of_z w64 c.difference_at.result) *ℤ to_z w64 c.symmetric_sum.result)) ≡ order_term c.args.exposures.now.seats (λ i. get_or c.args.shares.now.twentieths i 0) c.loop-j.j
 unfolding order_term
@@ -52,8 +52,8 @@ small c =
     let s = c.args.shares.now in
     omega (arith, orders_part x.seats (λ i. get_or s.twentieths i 0) seats x.long x.sound s.most c.loop-j.j, x.small)
 
-pub overflow-add-sum : goal.overflow-add-sum
-overflow-add-sum c = fits_known ◌+ℤ◌ c.loop-j.invariant (added c) (small c)
+pub overflow_add-sum : goal.overflow_add-sum
+overflow_add-sum c = fits_known ◌+ℤ◌ c.loop-j.invariant (added c) (small c)
 
 pub loop-j-preserved : goal.loop-j-preserved
 loop-j-preserved c = read_known ◌+ℤ◌ c.loop-j.invariant (added c) (small c) ∙ sym (below_next ◌+ℤ◌ (pos 0) _ c.loop-j.j)

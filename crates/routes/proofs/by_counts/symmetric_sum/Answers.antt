@@ -11,11 +11,11 @@ use Rattle.routes.proofs.by_counts.symmetric_sum.Goals.{then-set-members, else-s
 pub loop-set-init : goal.loop-set-init
 loop-set-init c = sym (below_none ◌+◌ 0 (members_term c.args.exposures.now.seats seats c.args.members))
 
-pub overflow-cast-set : goal.overflow-cast-set
-overflow-cast-set c = record { fits = omega (arith, ones_le seats c.loop-set.set c.loop-set-test.true) }
+pub overflow_cast-set : goal.overflow_cast-set
+overflow_cast-set c = record { fits = omega (arith, ones_le seats c.loop-set.set c.loop-set-test.true) }
 
-pub overflow-add-sum : goal.overflow-add-sum
-overflow-add-sum c =
+pub overflow_add-sum : goal.overflow_add-sum
+overflow_add-sum c =
     let x = c.args.exposures.now in
     let e = c.set_product-sum.ensures.value ∙ sym (members_yes x.seats seats c.args.members c.loop-set.set c.loop-set-test.true c.if-set-members.true) in
     record { fits = omega (arith, ap₂ ◌+◌ c.loop-set.invariant e, members_part x.seats seats c.args.members x.long x.sound c.loop-set.set c.loop-set-test.true, x.small) }

@@ -11,11 +11,11 @@ use Rattle.routes.proofs.ByNumber.{inside-yes, inside_no, ones_le}
 use Rattle.routes.proofs.by_number.is_even.Goals as goal
 use Rattle.routes.proofs.by_number.is_even.Goals.{then-p-named+else-shares-p, else-p-named}
 
-pub overflow-cast-p : goal.overflow-cast-p
-overflow-cast-p c = record { fits = omega (arith, ones_le seats c.loop-p.p c.loop-p-test.true) }
+pub overflow_cast-p : goal.overflow_cast-p
+overflow_cast-p c = record { fits = omega (arith, ones_le seats c.loop-p.p c.loop-p-test.true) }
 
-pub offset-bounds-by_number-p : goal.offset-bounds-by_number-p
-offset-bounds-by_number-p c = record { fits = omega (arith, ones_le seats c.loop-p.p c.loop-p-test.true) }
+pub offset_bounds-by_number-p : goal.offset_bounds-by_number-p
+offset_bounds-by_number-p c = record { fits = omega (arith, ones_le seats c.loop-p.p c.loop-p-test.true) }
 
 pub returns-then-shares-p : goal.returns-then-shares-p
 returns-then-shares-p c =

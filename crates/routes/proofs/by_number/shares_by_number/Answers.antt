@@ -9,11 +9,11 @@ use Rattle.routes.proofs.by_number.shares_by_number.Goals.{then-p-named, else-p-
 pub loop-p-init : goal.loop-p-init
 loop-p-init c = tabled_none seats (λ q. get_or c.args.shares.now.twentieths q 0) c.args.named
 
-pub overflow-cast-twentieths : goal.overflow-cast-twentieths
-overflow-cast-twentieths c = record { fits = omega (arith, ones_le seats c.loop-p.p c.loop-p-test.true) }
+pub overflow_cast-twentieths : goal.overflow_cast-twentieths
+overflow_cast-twentieths c = record { fits = omega (arith, ones_le seats c.loop-p.p c.loop-p-test.true) }
 
-pub offset-bounds-twentieths-p : goal.offset-bounds-twentieths-p
-offset-bounds-twentieths-p c = record { fits = omega (arith, ones_le seats c.loop-p.p c.loop-p-test.true) }
+pub offset_bounds-twentieths-p : goal.offset_bounds-twentieths-p
+offset_bounds-twentieths-p c = record { fits = omega (arith, ones_le seats c.loop-p.p c.loop-p-test.true) }
 
 pub loop-p-preserved : goal.loop-p-preserved
 loop-p-preserved c =
@@ -23,8 +23,8 @@ loop-p-preserved c =
       | else-p-named w ↦ subst P (sym w.twentieths-is) (tabled_out c.loop-p.invariant c.loop-p-test.true w.if-p-named.false)
     ]
 
-pub invariant-of-result : goal.invariant-of-result
-invariant-of-result c =
+pub invariant_of-result : goal.invariant_of-result
+invariant_of-result c =
     let s = c.args.shares.now in
     let e : c.loop-p.p ≡ patterns = omega arith in
     let t = tabled_all e c.loop-p.invariant in

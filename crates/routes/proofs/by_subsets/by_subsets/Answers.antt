@@ -25,8 +25,8 @@ product_small c =
     le_trans (le_of_eq (abs_times c.set_difference.result c.set_product.result))
     (le_trans (mul-le-mul c.set_difference.ensures.bound (le_trans c.set_product.ensures.bound c.args.exposures.now.small)) (omega arith))
 
-pub overflow-mul-sum : goal.overflow-mul-sum
-overflow-mul-sum c = fits_known ◌*ℤ◌ (left c) (right c) (product_small c)
+pub overflow_mul-sum : goal.overflow_mul-sum
+overflow_mul-sum c = fits_known ◌*ℤ◌ (left c) (right c) (product_small c)
 
 added : (c : goal.After-set_product) → to_z w64 (of_z w64 (to_z w64 (of_z w64 c.set_difference.result) *ℤ to_z w64 c.set_product.result))
     ≡ set_term c.args.exposures.now.seats seats (λ q. get_or c.args.shares.now.twentieths q 0) c.loop-set.set
@@ -39,8 +39,8 @@ small c =
     let s = c.args.shares.now in
     omega (arith, sets_part x.seats seats (λ q. get_or s.twentieths q 0) x.long x.sound s.most c.loop-set.set c.loop-set-test.true, x.small)
 
-pub overflow-add-sum : goal.overflow-add-sum
-overflow-add-sum c = fits_known ◌+ℤ◌ c.loop-set.invariant (added c) (small c)
+pub overflow_add-sum : goal.overflow_add-sum
+overflow_add-sum c = fits_known ◌+ℤ◌ c.loop-set.invariant (added c) (small c)
 
 pub loop-set-preserved : goal.loop-set-preserved
 loop-set-preserved c = read_known ◌+ℤ◌ c.loop-set.invariant (added c) (small c) ∙ sym (below_next ◌+ℤ◌ (pos 0) _ c.loop-set.set)

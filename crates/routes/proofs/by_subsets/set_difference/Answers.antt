@@ -28,8 +28,8 @@ added c =
 small : (j p : ℕ) (f : ℕ → ℕ) → ((q : ℕ) → f q ≤ 20) → p < patterns → nat_abs (difference_to seats f j p +ℤ sign (flags seats j) (flags seats p) *ℤ pos (f p)) ≤ 9 * 10 ^ 18
 small j p f h q = omega (arith, abs_add (difference_to seats f j p) (sign (flags seats j) (flags seats p) *ℤ pos (f p)), difference_small seats f j h p, sign-times (flags seats j) (flags seats p) (f p) (h p))
 
-pub overflow-add-sum : goal.overflow-add-sum
-overflow-add-sum c = fits_known ◌+ℤ◌ c.loop-p.invariant (added c) (small c.args.set c.loop-p.p (λ q. get_or c.args.shares.now.twentieths q 0) c.args.shares.now.most c.loop-p-test.true)
+pub overflow_add-sum : goal.overflow_add-sum
+overflow_add-sum c = fits_known ◌+ℤ◌ c.loop-p.invariant (added c) (small c.args.set c.loop-p.p (λ q. get_or c.args.shares.now.twentieths q 0) c.args.shares.now.most c.loop-p-test.true)
 
 pub loop-p-preserved : goal.loop-p-preserved
 loop-p-preserved c =

@@ -26,8 +26,8 @@ module _ (t : ℕ) (c : goal.After-difference_at-else-order-eq0 t) where
   small : nat_abs (Δ (j - 1) f (c.args.k + 1) -ℤ Δ (j - 1) f c.args.k) ≤ 9 * 10 ^ 18
   small = le_trans (le_of_eq (ap nat_abs (sym step))) (le_trans (Δ_small j f c.args.k (omega arith) c.args.shares.now.most) (omega arith))
 
-pub overflow-sub-result : goal.overflow-sub-result
-overflow-sub-result t c = fits_known ◌-ℤ◌ (further t c) (here t c) (small t c)
+pub overflow_sub-result : goal.overflow_sub-result
+overflow_sub-result t c = fits_known ◌-ℤ◌ (further t c) (here t c) (small t c)
 
 pub returns-then-order-eq0 : goal.returns-then-order-eq0
 returns-then-order-eq0 t c =

@@ -10,14 +10,14 @@ use Rattle.routes.proofs.products.set_product.Goals.{then-rest-eq1, else-rest-eq
 pub loop-seat-init : goal.loop-seat-init
 loop-seat-init c = start counted standing c.args.exposures.now.seats c.args.set
 
-pub overflow-mul-product : goal.overflow-mul-product
-overflow-mul-product c =
+pub overflow_mul-product : goal.overflow_mul-product
+overflow_mul-product c =
     let x = c.args.exposures.now in
     let h : c.loop-seat.seat-index < length x.seats = omega (arith, x.long) in
     record { fits = omega (arith, fits_here c.loop-seat.invariant h x.present (seat_at x.seats c.loop-seat.seat-index).count (x.sound c.loop-seat.seat-index), x.small) }
 
-pub overflow-mul-product-else-rest-eq1 : goal.overflow-mul-product-else-rest-eq1
-overflow-mul-product-else-rest-eq1 c =
+pub overflow_mul-product-else-rest-eq1 : goal.overflow_mul-product-else-rest-eq1
+overflow_mul-product-else-rest-eq1 c =
     let x = c.args.exposures.now in
     let h : c.loop-seat.seat-index < length x.seats = omega (arith, x.long) in
     record { fits = omega (arith, fits_here c.loop-seat.invariant h x.present (seat_at x.seats c.loop-seat.seat-index).present (omega arith), x.small) }

@@ -6,8 +6,8 @@ use Rattle.weights.proofs.Forms.{D_pos}
 use Rattle.routes.proofs.Running.{product-none}
 use Rattle.routes.proofs.products.weight_of.Goals as goal
 
-pub invariant-of-result : goal.invariant-of-result
-invariant-of-result c =
+pub invariant_of-result : goal.invariant_of-result
+invariant_of-result c =
     let x = c.args.exposures.now in
     let full : c.set_product.result ≡ D x.seats = c.set_product.ensures.value ∙ product-none x.seats _ x.long in
     let weight : nat_abs (to_z w64 (of_z w64 c.args.sum)) ≡ nat_abs c.args.sum = ap nat_abs (to_z-of_z w64 c.args.sum c.ranges.sum) in

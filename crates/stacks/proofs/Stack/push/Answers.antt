@@ -8,5 +8,5 @@ returns g c =
     let s = c.args.self.now in
     record {
       room = search rules;
-      cases = piled-push c.count_at.result s.slots.now c.args.x (omega arith) ∙ ap (λ l. c.args.x ∷ l) (sym (piled_clip s.len c.count_at.result s.slots.now c.count_at.ensures.count));
+      cases = piled-push c.count-at.result s.slots.now c.args.x (omega arith) ∙ ap (λ l. c.args.x ∷ l) (sym (piled_clip s.len c.count-at.result s.slots.now c.count-at.ensures.count));
     }

@@ -24,8 +24,8 @@ sum_out-requires c =
       small = λ p q. le_trans (small l h x.present p q) (omega (arith, x.small));
     }
 
-pub overflow-mul-full : goal.overflow-mul-full
-overflow-mul-full c =
+pub overflow_mul-full : goal.overflow_mul-full
+overflow_mul-full c =
     let x = c.args.exposures.now in
     let one : c.loop-i.i ≡ c.loop-i.i - 1 + 1 = omega arith in
     let l = subst (λ (n : ℕ). Left x.seats c.args.shares.now.twentieths n c.loop-i.left c.loop-i.sums c.loop-i.full) one c.loop-i.invariant.1 in
@@ -41,12 +41,12 @@ loop-i-preserved c =
     let e : length c.sum_out.new.sums ≡ length c.loop-i.sums = c.sum_out.auto.sums in
     (e ∙ c.loop-i.invariant.0, left_next l h x.sound c.sum_out.new.sums e c.sum_out.ensures)
 
-pub invariant-of-result : goal.invariant-of-result
-invariant-of-result c =
+pub invariant_of-result : goal.invariant_of-result
+invariant_of-result c =
     let x = c.args.exposures.now in
     let none : c.loop-i.i ≡ 0 = omega arith in
     let d = all_done (subst (λ (n : ℕ). Left x.seats c.args.shares.now.twentieths n c.loop-i.left c.loop-i.sums c.loop-i.full) none c.loop-i.invariant.1) in
-    (omega (arith, d.product, D_pos x.seats x.present), (omega (arith, d.product, x.small), (d.part, tt)))
+    record { some = omega (arith, d.product, D_pos x.seats x.present); most = omega (arith, d.product, x.small); part = d.part }
 
 pub returns : goal.returns
 returns c =

@@ -3,8 +3,8 @@ use Rattle.std.proofs.Common.{ℕ, ◌+◌, ◌*◌, ◌^◌, ◌≤◌, get_or,
 use Rattle.weights.proofs.SumOut.{Summing, sum_next, pair_bound}
 use Rattle.weights.proofs.by_patterns.sum_out.Goals as goal
 
-pub overflow-add-sums-in-loop-p : goal.overflow-add-sums-in-loop-p
-overflow-add-sums-in-loop-p c =
+pub overflow_add-sums-in-loop-p : goal.overflow_add-sums-in-loop-p
+overflow_add-sums-in-loop-p c =
     let s = c.loop-p.invariant in
     let p = c.loop-p.p in
     let q = p + c.args.others in

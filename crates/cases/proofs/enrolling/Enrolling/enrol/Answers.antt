@@ -28,8 +28,8 @@ returns-then-from-gt-GREATEST g c =
     let no = enrol_too_large xs c.args.seat (omega arith) counts empty (λ e. c.if-first-eq0.false (zeroth ∙ e)) (omega (arith, p)) in
     record { answer = sym no; after = sym (refused (enrol c.args.seat counts) (opened xs) ProductTooLarge no) }
 
-pub invariant-of-self : goal.invariant-of-self
-invariant-of-self g c =
+pub invariant_of-self : goal.invariant_of-self
+invariant_of-self g c =
     let was = c.args.self.now in
     let xs = was.table.seats in
     let life = c.args.life.now in

@@ -3,5 +3,5 @@ use Rattle.std.proofs.Common.{rules}
 use Rattle.cases.proofs.Sounds.{started-within}
 use Rattle.cases.proofs.enrolling.Enrolling.start.Goals as goal
 
-pub invariant-of-result : goal.invariant-of-result
-invariant-of-result c = search (rules, started-within)
+pub invariant_of-result : goal.invariant_of-result
+invariant_of-result c = search (rules, started-within)

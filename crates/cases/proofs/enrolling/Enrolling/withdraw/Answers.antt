@@ -6,8 +6,8 @@ use Rattle.cases.proofs.Judging.{accepted, withdraw_accepted}
 use Rattle.cases.proofs.Sounds.{withdrawn_columns, withdrawn-within}
 use Rattle.cases.proofs.enrolling.Enrolling.withdraw.Goals as goal
 
-pub invariant-of-self : goal.invariant-of-self
-invariant-of-self c =
+pub invariant_of-self : goal.invariant_of-self
+invariant_of-self c =
     let was = c.args.self.now in
     let xs = was.table.seats in
     let e = sym c.clear.ensures in

@@ -9,8 +9,8 @@ use Rattle.cases.specs.Views.{shown_book}
 use Rattle.cases.proofs.Routes.{difference_is, difference_past, difference-here}
 use Rattle.cases.proofs.inforce.InForce.difference.Goals as goal
 
-pub overflow-cast-named : goal.overflow-cast-named
-overflow-cast-named c =
+pub overflow_cast-named : goal.overflow_cast-named
+overflow_cast-named c =
     let x = c.args.benefit.now in
     record { fits = omega (arith, ap ones c.named.ensures, ones_le seats x.named x.seats) }
 

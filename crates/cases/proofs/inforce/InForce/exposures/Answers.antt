@@ -10,8 +10,8 @@ use Rattle.cases.specs.Weighing.{exposures_for}
 use Rattle.cases.proofs.Weighings.{held_found, held_sound, held-present, held_small}
 use Rattle.cases.proofs.inforce.InForce.exposures.Goals as goal
 
-pub invariant-of-result : goal.invariant-of-result
-invariant-of-result c =
+pub invariant_of-result : goal.invariant_of-result
+invariant_of-result c =
     let me = c.args.self.now in
     let b = in_force_book me in
     let e = sym (held_found b me.columns me.within c.args.year c.named-named.result c.loop-seat.found c.loop-seat.invariant.0 (λ i h. c.loop-seat.invariant.1 i (omega arith))) in (

@@ -11,8 +11,8 @@ use Rattle.cases.proofs.Supposed.{shown_columns, shown_within}
 use Rattle.cases.proofs.Weighings.{held_found, held_sound, held-present, held_small}
 use Rattle.cases.proofs.inforce.InForce.exposures_shown.Goals as goal
 
-pub invariant-of-result : goal.invariant-of-result
-invariant-of-result c =
+pub invariant_of-result : goal.invariant_of-result
+invariant_of-result c =
     let me = c.args.self.now in
     let b = shown_book me in
     let e = sym (held_found b (shown_columns me) (shown_within me) c.args.year c.named-named.result c.loop-seat.found c.loop-seat.invariant.0 (λ i h. c.loop-seat.invariant.1 i (omega arith))) in (

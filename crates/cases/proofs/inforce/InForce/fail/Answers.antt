@@ -4,8 +4,8 @@ use Rattle.seats.specs.Seats.{present, Columns, Within}
 use Rattle.cases.proofs.Sounds.{failed_columns, failed-within}
 use Rattle.cases.proofs.inforce.InForce.fail.Goals as goal
 
-pub invariant-of-self : goal.invariant-of-self
-invariant-of-self c =
+pub invariant_of-self : goal.invariant_of-self
+invariant_of-self c =
     let was = c.args.self.now in
     let seats = was.table.seats in
     let e = sym c.fail.ensures in (

@@ -4,8 +4,8 @@ use Rattle.lives.specs.Tables.{fairly}
 use Rattle.schemes.proofs.Tabling.{sound_set, lists-set, lists_set_past}
 use Rattle.schemes.proofs.tables.Tables.append.Goals as goal
 
-pub invariant-of-self : goal.invariant-of-self
-invariant-of-self c =
+pub invariant_of-self : goal.invariant_of-self
+invariant_of-self c =
     let t = c.in-Some.ensures in
     (sound_set c.args.self.now.tables c.args.i c.in-Some.table c.args.self.now.sound (omega arith) t.2 t.3, tt)
 

@@ -11,8 +11,8 @@ next c =
     let read : c.from-all.result ≡ first (seat_at seats c.loop-seat.seat-index) = c.from-all.ensures ∙ c.first.ensures in
     rw read (product_more first seats c.loop-seat.seat-index c.loop-seat.all (omega (arith, c.requires.columns.0)) c.loop-seat.invariant)
 
-pub overflow-mul-all : goal.overflow-mul-all
-overflow-mul-all c = omega (arith, product-within first c.args.self.now.seats (c.loop-seat.seat-index + 1) (c.loop-seat.all * c.from-all.result) c.requires.within.0 (next c), c.requires.within.1)
+pub overflow_mul-all : goal.overflow_mul-all
+overflow_mul-all c = omega (arith, product-within first c.args.self.now.seats (c.loop-seat.seat-index + 1) (c.loop-seat.all * c.from-all.result) c.requires.within.0 (next c), c.requires.within.1)
 
 pub loop-seat-preserved : goal.loop-seat-preserved
 loop-seat-preserved c = next c

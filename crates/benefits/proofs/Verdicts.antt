@@ -21,8 +21,8 @@ share_field text from end f e =
     let n = end_at text from Digit - from in
     ap (λ k. take (k - from) (drop from text)) e ∙ ap (λ k. take k (drop from text)) (omega arith) ∙ ap (λ k. run_at text k Digit) f
 
-pub share_end : (text : List ℕ) (from end : ℕ) → from ≡ share_at text → end ≡ end_at text from Digit → end ≡ share_end text
-share_end text from end f e = e ∙ ap (λ k. end_at text k Digit) f
+pub share_end_is : (text : List ℕ) (from end : ℕ) → from ≡ share_at text → end ≡ end_at text from Digit → end ≡ share_end text
+share_end_is text from end f e = e ∙ ap (λ k. end_at text k Digit) f
 
 -- what follows the share
 pub expression_rest : (text : List ℕ) (end : ℕ) → end ≡ share_end text → take (length text - end) (drop end text) ≡ expression_of text
@@ -44,7 +44,7 @@ module _ (text : List ℕ) (from end at p a : ℕ) (begins : from ≡ share_at t
   share_known o e = e ∙ ap share_in (share_field text from end begins ends)
 
   rest_known : take (length text - end) (drop end text) ≡ expression_of text
-  rest_known = expression_rest text end (share_end text from end begins ends)
+  rest_known = expression_rest text end (share_end_is text from end begins ends)
 
   pub clause_ok : (n : ℕ) (x : Reading) → Some n ≡ share_in (take (end - from) (drop from text)) → Answered (Ok x) (take (length text - end) (drop end text)) p a → ClauseVerdict (share_of text) (Ok (record { share = n; reading = x })) at text p a
   clause_ok n x e h = subst (λ o. ClauseVerdict o (Ok (record { share = n; reading = x })) at text p a) (share_known (Some n) e) (refl, subst (λ t. Answered (Ok x) t p a) rest_known h)
@@ -52,7 +52,7 @@ module _ (text : List ℕ) (from end at p a : ℕ) (begins : from ≡ share_at t
   pub clause_err : (n : ℕ) (e : ReadFault) (f : PartFault) → 64 ≤ p → 64 ≤ a → f ≡ in_part (at + end) e → Some n ≡ share_in (take (end - from) (drop from text)) → Answered (Err e) (take (length text - end) (drop end text)) p a → ClauseVerdict (share_of text) (Err f) at text p a
   clause_err n e f hp ha is known h =
       let told = token-only e (expression_of text) p a hp ha (subst (λ t. Answered (Err e) t p a) rest_known h) in
-      let here = subst (λ o. ClauseVerdict o (Err (in_part (at + end) e)) at text p a) (share_known (Some n) known) (ap (λ k. at + k) (share_end text from end begins ends), told) in
+      let here = subst (λ o. ClauseVerdict o (Err (in_part (at + end) e)) at text p a) (share_known (Some n) known) (ap (λ k. at + k) (share_end_is text from end begins ends), told) in
       subst (λ g. ClauseVerdict (share_of text) (Err g) at text p a) (sym is) here
 
   pub clause_none : (f : PartFault) → f ≡ record { start = at + from; fault = no_share } → None ≡ share_in (take (end - from) (drop from text)) → ClauseVerdict (share_of text) (Err f) at text p a

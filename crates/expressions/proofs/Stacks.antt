@@ -26,8 +26,8 @@ pub length_rest_below : {A : Type 0} (xs : List A) (n : ℕ) → length xs ≤ n
 length_rest_below [] n le some = some
 length_rest_below (x ∷ xs) n le some = omega arith
 
-pub join_words : (ws : List Word) → is_top Or ws ≡ true → join_words ws ≡ rest ws
-join_words ws t = ap (λ b. cond b (rest ws) ws) t
+pub join_words_is : (ws : List Word) → is_top Or ws ≡ true → join_words ws ≡ rest ws
+join_words_is ws t = ap (λ b. cond b (rest ws) ws) t
 
-pub join_masks : (ws : List Word) (ms : List ℕ) → is_top Or ws ≡ true → join_masks ws ms ≡ bit_or (top (rest ms)) (top ms) ∷ rest (rest ms)
-join_masks ws ms t = ap (λ b. cond b (bit_or (top (rest ms)) (top ms) ∷ rest (rest ms)) ms) t
+pub join_masks_is : (ws : List Word) (ms : List ℕ) → is_top Or ws ≡ true → join_masks ws ms ≡ bit_or (top (rest ms)) (top ms) ∷ rest (rest ms)
+join_masks_is ws ms t = ap (λ b. cond b (bit_or (top (rest ms)) (top ms) ∷ rest (rest ms)) ms) t

@@ -23,7 +23,7 @@ use Rattle.benefits.specs.Shares.{share}
 use Rattle.cases.specs.Book.{Book}
 use Rattle.cases.specs.Weighing.{exposure_by, exposure_for, exposures_for, weight_of}
 use Rattle.cases.proofs.Weighings.{falls}
-use Rattle.histories.proofs.Years.{fallen, moved, year_on}
+use Rattle.histories.proofs.Years.{fallen, moved, year_on_is}
 use Rattle.histories.specs.Survival.{survives, deaths_in, survivors, deaths_of, year_on, NamesLiving, survivors_term, Survivors}
 
 -- ---- the seats as the theorem on weights sees them, for year t after s elapsed years
@@ -162,7 +162,7 @@ module _ (b : Book) (x : Benefit) (t : ℕ) (columns : Columns b.seats) where
   after_is : 1 ≤ t → (J : Pattern) → length J ≡ length b.seats → survivors b.elapsed b.seats J ≡ true → after views J ≡ exposures_for (year_on b J) (t - 1)
   after_is soon J e h =
       after-all b.elapsed t soon b.seats J (any_of lives (moved b.seats J)) e (λ k. k)
-      ∙ sym (ap (λ (c : Book). exposures_for c (t - 1)) (year_on b J columns.0 e h))
+      ∙ sym (ap (λ (c : Book). exposures_for c (t - 1)) (year_on_is b J columns.0 e h))
 
   -- what the set J adds, of the views
   abbrev adds : Pattern → ℕ

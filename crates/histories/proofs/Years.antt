@@ -94,9 +94,9 @@ none_ends s (x ∷ xs) (false ∷ J) e h =
 year_ends : (b : Book) → any_of (ending (b.elapsed + 1)) b.seats ≡ false → step year_end b ≡ done year_end b
 year_ends b e = accepted year_end b (ap (λ (u : Bool). cond u (Err Ending) (Ok tt)) e)
 
-pub year_on : (b : Book) (J : Pattern) → length b.seats ≡ number_of_seats → length J ≡ length b.seats → survivors b.elapsed b.seats J ≡ true
+pub year_on_is : (b : Book) (J : Pattern) → length b.seats ≡ number_of_seats → length J ≡ length b.seats → survivors b.elapsed b.seats J ≡ true
     → year_on b J ≡ done year_end (seating b (moved b.seats J))
 unfolding year_on
-year_on b J n e h =
+year_on_is b J n e h =
     ap (step year_end) (all_fall b [] b.seats 0 J refl (omega arith))
     ∙ year_ends (seating b (moved b.seats J)) (none_ends b.elapsed b.seats J e h)

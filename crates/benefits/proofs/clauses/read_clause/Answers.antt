@@ -26,7 +26,7 @@ returns-in_err-reading c =
     let rest = take (length text - end) (drop end text) in
     let p = length c.args.pending.now in
     let a = length c.args.answers.now in
-    let out = err_from_is_err_and c.from-residual.result c.from-residual.ensures.1 in
+    let out = err_from_is_err_and c.from_residual.result c.from_residual.ensures.1 in
     let was = paired_err c.read.result (c.args.at + end) c.with_number.result _ c.with_number.ensures c.in_err-reading.was in
     let is : out.0 ≡ in_part (c.args.at + end) was.0 = out.2 ∙ ap (λ n. in_part n.number n.fault) was.2 in
     subst (λ r. ClauseVerdict (share_of text) r c.args.at text p a) (sym out.1)

@@ -4,7 +4,7 @@ use lib.Bits.{bit_or}
 use Rattle.stacks.specs.Items.{items, room, rest}
 use Rattle.expressions.specs.Layout.{words_in, masks_in, top}
 use Rattle.stacks.proofs.Piles.{within-room}
-use Rattle.expressions.proofs.Stacks.{pushed, map-rest, length_rest_below, length_rest, join_words, join_masks}
+use Rattle.expressions.proofs.Stacks.{pushed, map-rest, length_rest_below, length_rest, join_words_is, join_masks_is}
 use Rattle.expressions.proofs.Reader.join.Goals as goal
 
 pub returns-then-is_top : goal.returns-then-is_top
@@ -21,7 +21,7 @@ returns-then-is_top c =
     let a : c.unwrap_or-a.result ≡ top (rest (masks_in self)) = c.unwrap_or-a.ensures ∙ ap (λ o. unwrap_or o 0) r.value ∙ ap top q.after in
     record {
       kept = record { pending_room = p.room; answers_room = c.push.ensures.room ∙ r.room ∙ q.room; same-named = refl };
-      words = ap (map (λ x. x.word)) p.after ∙ map-rest (λ x. x.word) (items self.pending) ∙ sym (join_words (words_in self) is);
-      masks = more ∙ (λ i. bit_or (a i) (b i) ∷ left i) ∙ sym (join_masks (words_in self) (masks_in self) is);
+      words = ap (map (λ x. x.word)) p.after ∙ map-rest (λ x. x.word) (items self.pending) ∙ sym (join_words_is (words_in self) is);
+      masks = more ∙ (λ i. bit_or (a i) (b i) ∷ left i) ∙ sym (join_masks_is (words_in self) (masks_in self) is);
       expect = refl;
     }

@@ -17,7 +17,7 @@ returns-in_err-token c =
     let text = c.args.text.now in
     let lexer = c.loop-i.lexer in
     let inv = c.loop-i.invariant in
-    let p = err_from_is_err_and c.from-residual.result c.from-residual.ensures.1 in
+    let p = err_from_is_err_and c.from_residual.result c.from_residual.ensures.1 in
     let sees = ap (λ l. look l (at lexer)) (sym inv.0) ∙ sym c.peek.ensures ∙ c.in_err-token.was in
     rw p.1 (sym inv.2 ∙ cut_err text (at lexer) _ (64 - c.loop-i.i) (63 - c.loop-i.i) _ sees (left _ c.loop-i-test.true) ∙ ap Err (sym p.2))
 

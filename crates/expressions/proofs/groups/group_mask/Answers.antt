@@ -4,7 +4,7 @@ use Rattle.std.proofs.lemmas.Nat.{one_shl}
 use Rattle.expressions.specs.Meaning.{packed, group_holds}
 use Rattle.expressions.proofs.Packs.{packed_lt}
 use Rattle.expressions.proofs.groups.group_mask.Goals as goal
-use Rattle.expressions.proofs.groups.group_mask.Goals.{then-does-hold, else-does-hold}
+use Rattle.expressions.proofs.groups.group_mask.Goals.{then-does_hold, else-does_hold}
 
 pub overflow_add-mask : goal.overflow_add-mask
 overflow_add-mask c =

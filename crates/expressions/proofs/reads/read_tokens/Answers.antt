@@ -10,7 +10,7 @@ loop-token-init c = (along_none c.args.tokens.now _ (ap (map (λ p. p.word)) c.n
 
 pub returns-in_err-step : goal.returns-in_err-step
 returns-in_err-step c =
-    let p = err_from_is_err_and c.from-residual.result c.from-residual.ensures.1 in
+    let p = err_from_is_err_and c.from_residual.result c.from_residual.ensures.1 in
     let h = c.loop-token.invariant.0 in
     let w = c.in_err-step.ensures.took h.state h.fits in
     subst (λ x. Verdict x c.args.tokens.now c.args.end) (sym p.1) (fault_at c.args.tokens.now c.loop-token.token-index c.args.end c.loop-token.reader _ p.0 c.loop-token-test.true (get_d_any c.args.tokens.now c.loop-token.token-index _ _ c.loop-token-test.true) h (p.2 ∙ w.0) w.1)

@@ -24,7 +24,7 @@ S_small c =
     (le_trans (subst (λ (n : ℕ). S x.seats c.loop-j.j ≤ 2 ^ n * D x.seats) x.long (S_bound x.seats c.loop-j.j x.sound)) (mul-le-mul_left (2 ^ seats) x.small))
 
 left : (c : goal.After-symmetric_sum) → to_z w64 (of_z w64 c.difference_at.result) ≡ Δ c.loop-j.j (λ i. get_or c.args.shares.now.twentieths i 0) 0
-left c = to_z-of_z w64 c.difference_at.result (record { sfits = c.difference_at.type-inv }) ∙ c.difference_at.ensures
+left c = to_z-of_z w64 c.difference_at.result (record { sfits = c.difference_at.type_inv }) ∙ c.difference_at.ensures
 
 right : (c : goal.After-symmetric_sum) → to_z w64 c.symmetric_sum.result ≡ pos (S c.args.exposures.now.seats c.loop-j.j)
 right c = to_z_pos w64 c.symmetric_sum.result (omega (arith, S_small c)) ∙ ap pos c.symmetric_sum.ensures

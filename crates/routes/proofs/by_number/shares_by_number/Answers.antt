@@ -28,7 +28,7 @@ invariant_of-result c =
     let s = c.args.shares.now in
     let e : c.loop-p.p ≡ patterns = omega arith in
     let t = tabled_all e c.loop-p.invariant in
-    (t.long, ((λ k. le_trans (le_of_eq (t.is k)) (share_le seats (λ q. get_or s.twentieths q 0) c.args.named patterns k 20 s.most)), tt))
+    record { long = t.long; most = (λ k. le_trans (le_of_eq (t.is k)) (share_le seats (λ q. get_or s.twentieths q 0) c.args.named patterns k 20 s.most)) }
 
 pub returns : goal.returns
 returns c =

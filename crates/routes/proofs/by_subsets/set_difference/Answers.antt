@@ -17,12 +17,12 @@ loop-p-init c = sym (difference-none seats (λ q. get_or c.args.shares.now.twent
 sign_read : (g : ℤ) (j p : ℕ) → SFits w8 g → g ≡ sign (flags seats j) (flags seats p) → to_z w64 (of_z w64 (to_z w8 (of_z w8 g))) ≡ sign (flags seats j) (flags seats p)
 sign_read g j p f e = ap (λ (z : ℤ). to_z w64 (of_z w64 z)) (to_z-of_z w8 g f ∙ e) ∙ read _ (le_trans (sign-size (flags seats j) (flags seats p)) (omega arith))
 
-added : (c : goal.After-sum·1)
+added : (c : goal.After-sum-1)
     → to_z w64 (of_z w64 (to_z w64 (of_z w64 (to_z w8 (of_z w8 c.sign_of.result))) *ℤ to_z w64 (get_or c.args.shares.now.twentieths c.loop-p.p 0)))
     ≡ sign (flags seats c.args.set) (flags seats c.loop-p.p) *ℤ pos (get_or c.args.shares.now.twentieths c.loop-p.p 0)
 added c =
     let most = c.args.shares.now.most c.loop-p.p in
-    read_known ◌*ℤ◌ (sign_read c.sign_of.result c.args.set c.loop-p.p (record { sfits = c.sign_of.type-inv }) c.sign_of.ensures) (to_z_pos w64 (get_or c.args.shares.now.twentieths c.loop-p.p 0) (omega arith))
+    read_known ◌*ℤ◌ (sign_read c.sign_of.result c.args.set c.loop-p.p (record { sfits = c.sign_of.type_inv }) c.sign_of.ensures) (to_z_pos w64 (get_or c.args.shares.now.twentieths c.loop-p.p 0) (omega arith))
     (le_trans (sign-times (flags seats c.args.set) (flags seats c.loop-p.p) _ most) (omega arith))
 
 small : (j p : ℕ) (f : ℕ → ℕ) → ((q : ℕ) → f q ≤ 20) → p < patterns → nat_abs (difference_to seats f j p +ℤ sign (flags seats j) (flags seats p) *ℤ pos (f p)) ≤ 9 * 10 ^ 18

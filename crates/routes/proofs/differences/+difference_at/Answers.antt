@@ -15,10 +15,10 @@ module _ (t : ℕ) (c : goal.After-difference_at-else-order-eq0 t) where
   j = c.args.order
 
   further : to_z w64 (of_z w64 c.difference_at.result) ≡ Δ (j - 1) f (c.args.k + 1)
-  further = to_z-of_z w64 c.difference_at.result (record { sfits = c.difference_at.type-inv }) ∙ c.difference_at.ensures
+  further = to_z-of_z w64 c.difference_at.result (record { sfits = c.difference_at.type_inv }) ∙ c.difference_at.ensures
 
   here : to_z w64 (of_z w64 c.difference_at-else-order-eq0.result) ≡ Δ (j - 1) f c.args.k
-  here = to_z-of_z w64 c.difference_at-else-order-eq0.result (record { sfits = c.difference_at-else-order-eq0.type-inv }) ∙ c.difference_at-else-order-eq0.ensures
+  here = to_z-of_z w64 c.difference_at-else-order-eq0.result (record { sfits = c.difference_at-else-order-eq0.type_inv }) ∙ c.difference_at-else-order-eq0.ensures
 
   step : Δ j f c.args.k ≡ Δ (j - 1) f (c.args.k + 1) -ℤ Δ (j - 1) f c.args.k
   step = Δ-step j f c.args.k (omega arith)

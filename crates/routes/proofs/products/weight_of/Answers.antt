@@ -11,7 +11,7 @@ invariant_of-result c =
     let x = c.args.exposures.now in
     let full : c.set_product.result ≡ D x.seats = c.set_product.ensures.value ∙ product-none x.seats _ x.long in
     let weight : nat_abs (to_z w64 (of_z w64 c.args.sum)) ≡ nat_abs c.args.sum = ap nat_abs (to_z-of_z w64 c.args.sum c.ranges.sum) in
-    (omega (arith, D_pos x.seats x.present), (omega (arith, x.small), (omega (arith, c.requires.part), tt)))
+    record { some = omega (arith, D_pos x.seats x.present); most = omega (arith, x.small); part = omega (arith, c.requires.part) }
 
 pub returns : goal.returns
 returns c =

@@ -35,8 +35,8 @@ returns-in_err-said c =
     let f : c.step.result ≡ Err z.fault = search rules in
     let n : z.number ≡ c.loop-rest.line = search rules in
     let l : Lined line s (Err z.fault) = subst (λ r. Lined line s (done_by r (state_of c.step.new.self))) f c.step.ensures.lined in
-    let p = err_from_is_err_and c.from-residual.result c.from-residual.ensures.1 in
-    let e : c.from-residual.result ≡ Err (in_line c.loop-rest.line z.fault) = p.1 ∙ ap (λ x. Err x) (p.2 ∙ ap (λ m. in_line m z.fault) n) in
+    let p = err_from_is_err_and c.from_residual.result c.from_residual.ensures.1 in
+    let e : c.from_residual.result ≡ Err (in_line c.loop-rest.line z.fault) = p.1 ∙ ap (λ x. Err x) (p.2 ∙ ap (λ m. in_line m z.fault) n) in
     let r = run_stops s c.loop-rest.line room rest line left z.fault (cut_line rest i c.in-Some.ensures.1) l in
     record {
       lent = h.2;

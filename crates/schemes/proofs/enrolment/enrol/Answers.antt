@@ -14,7 +14,7 @@ returns-in_err-enrol_by c =
     let b = enrolling_book c.args.case.now in
     let j = joined_is c.args.rest.now (lists c.args.tables.now.tables) b n.0 _ n.1 n.2 in
     let q = begins_not _ c.in_err-enrol_by.field-0.0 (enrolling_book c.enrol_by.new.case) b a.answer a.after in
-    let p = err_from_is_err_and c.from-residual-in_err-enrol_by.result c.from-residual-in_err-enrol_by.ensures.1 in
+    let p = err_from_is_err_and c.from_residual-in_err-enrol_by.result c.from_residual-in_err-enrol_by.ensures.1 in
     rw (p.1, p.2) (j ∙ q.0, q.1)
 
 pub returns : goal.returns

@@ -13,7 +13,7 @@ returns-in_err-scale_all g c =
     let b = enrolling_book c.args.case.now in
     let n = c.in_err-scale_all.ensures in
     let e = sym (enrolled_not (g.B.Life.count c.args.basis) c.args.seat c.args.aged c.args.factor b n.1) in
-    let p = err_from_is_err_and c.from-residual.result c.from-residual.ensures.1 in
+    let p = err_from_is_err_and c.from_residual.result c.from_residual.ensures.1 in
     record { answer = p.1 ∙ ap (λ x. Err x) (p.2 ∙ n.0) ∙ ap answer_of e; after = ap (λ r. after r b) e }
 
 pub returns : goal.returns

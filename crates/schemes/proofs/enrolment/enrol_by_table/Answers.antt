@@ -20,7 +20,7 @@ pub returns-in_err-load : goal.returns-in_err-load
 returns-in_err-load c =
     let b = enrolling_book c.args.case.now in
     let e = sym (by_table_not c.args.list.now c.in_err-load.ensures.1) in
-    let p = err_from_is_err_and c.from-residual.result c.from-residual.ensures.1 in
+    let p = err_from_is_err_and c.from_residual.result c.from_residual.ensures.1 in
     record {
       answer = p.1 ∙ ap (λ r. Err r) (p.2 ∙ c.in_err-load.ensures.0) ∙ ap (λ r. answer_of (enrolled r c.args.seat c.args.aged c.args.factor b)) e;
       after = ap (λ r. after (enrolled r c.args.seat c.args.aged c.args.factor b) b) e;

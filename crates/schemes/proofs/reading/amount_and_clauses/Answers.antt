@@ -7,7 +7,7 @@ use Rattle.schemes.proofs.reading.amount_and_clauses.Goals as goal
 
 pub returns-in_err-amount : goal.returns-in_err-amount
 returns-in_err-amount c =
-    let p = err_from_is_err_and c.from-residual.result c.from-residual.ensures.1 in
+    let p = err_from_is_err_and c.from_residual.result c.from_residual.ensures.1 in
     rw (p.1, p.2) (amount_is c.args.rest.now c.cut.result.0.now c.cut.result.1.now c.cut.ensures.parts (omega (arith, ltb-true, ltb-false)) ∙ sym c.in_err-amount.ensures)
 
 pub returns : goal.returns

@@ -25,5 +25,5 @@ returns c =
     let x = c.args.benefit.now in
     let by_number = λ (k : ℕ). c.shares_by_number.ensures k ∙ (λ i. share_with seats (λ p. get_or (c.shares.ensures i).twentieths p 0) (c.named-2.ensures i) k) in
     difference_is (shown_book c.args.self.now) x c.args.order _ c.in_ok-test_seats.ensures c.in_ok-test_number.ensures
-    (to_z-of_z w64 c.difference.result (record { sfits = c.difference.type-inv })
+    (to_z-of_z w64 c.difference.result (record { sfits = c.difference.type_inv })
     ∙ difference-here x c.args.order c.difference.result (λ k. get_or c.shares_by_number.result.twentieths k 0) (subst (λ (N : ℕ). c.args.order ≤ ones N) c.named.ensures c.if-order-named.false) by_number c.difference.ensures)

@@ -59,8 +59,8 @@ pub fn account<L: Life>(
     year: u32,
     rate: u32,
 ) -> Account
-    ensures answered { Answered (supposed_now supposed (book count enrolments.now events.now)) benefit.now year rate result }
-    ensures law { Law (supposed_now supposed (book count enrolments.now events.now)) benefit.now year rate result }
+    ensures answered { Answered (supposed_now supposed (book L.count enrolments.now events.now)) benefit.now year rate result }
+    ensures law { Law (supposed_now supposed (book L.count enrolments.now events.now)) benefit.now year rate result }
 {
     let mut case = enrolled(enrolments).start();
     carry_all(&mut case, looked_at, events);

@@ -66,7 +66,7 @@ pub fn carry_all(case: &mut InForce, benefits: &[Benefit], events: &[Event])
 
 // One call on a case that is enrolling, whatever it answers.
 fn enter<L: Life>(case: &mut Enrolling, enrolment: &Enrolment<L>)
-    ensures { enrolling_book case.new ≡ step (called count enrolment.now) (enrolling_book case.old) }
+    ensures { enrolling_book case.new ≡ step (called L.count enrolment.now) (enrolling_book case.old) }
 {
     match enrolment {
         Enrolment::Enrol(seat, life) => {
@@ -80,7 +80,7 @@ fn enter<L: Life>(case: &mut Enrolling, enrolment: &Enrolment<L>)
 
 // A case that is opened, with all its enrolments.
 pub fn enrolled<L: Life>(enrolments: &[Enrolment<L>]) -> Enrolling
-    ensures { enrolling_book result ≡ run (map (called count) enrolments.now) beginning }
+    ensures { enrolling_book result ≡ run (map (called L.count) enrolments.now) beginning }
 {
     let mut case = Enrolling::open();
     for enrolment in enrolments {

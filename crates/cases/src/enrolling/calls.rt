@@ -26,8 +26,8 @@ impl Enrolling {
 
     // An empty seat becomes living with the life's counts.
     pub fn enrol<L: Life>(&mut self, seat: usize, life: &L) -> Result<(), Refusal>
-        ensures answer { result ≡ judged (enrol seat (column (count life.now))) (enrolling_book self.old) }
-        ensures after { enrolling_book self.new ≡ step (enrol seat (column (count life.now))) (enrolling_book self.old) }
+        ensures answer { result ≡ judged (enrol seat (column (L.count life.now))) (enrolling_book self.old) }
+        ensures after { enrolling_book self.new ≡ step (enrol seat (column (L.count life.now))) (enrolling_book self.old) }
     {
         if seat >= SEATS {
             return Err(Refusal::NoSeat);

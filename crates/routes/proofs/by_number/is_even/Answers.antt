@@ -14,8 +14,8 @@ use Rattle.routes.proofs.by_number.is_even.Goals.{then-p-named+else-shares-p, el
 pub overflow_cast-p : goal.overflow_cast-p
 overflow_cast-p c = record { fits = omega (arith, ones_le seats c.loop-p.p c.loop-p-test.true) }
 
-pub offset_bounds-by_number-p : goal.offset_bounds-by_number-p
-offset_bounds-by_number-p c = record { fits = omega (arith, ones_le seats c.loop-p.p c.loop-p-test.true) }
+pub bounds-by_number-p : goal.bounds-by_number-p
+bounds-by_number-p c = omega (arith, ones_le seats c.loop-p.p c.loop-p-test.true)
 
 pub returns-then-shares-p : goal.returns-then-shares-p
 returns-then-shares-p c =

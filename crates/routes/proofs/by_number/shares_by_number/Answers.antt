@@ -12,8 +12,8 @@ loop-p-init c = tabled_none seats (λ q. get_or c.args.shares.now.twentieths q 0
 pub overflow_cast-twentieths : goal.overflow_cast-twentieths
 overflow_cast-twentieths c = record { fits = omega (arith, ones_le seats c.loop-p.p c.loop-p-test.true) }
 
-pub offset_bounds-twentieths-p : goal.offset_bounds-twentieths-p
-offset_bounds-twentieths-p c = record { fits = omega (arith, ones_le seats c.loop-p.p c.loop-p-test.true) }
+pub bounds-twentieths-p : goal.bounds-twentieths-p
+bounds-twentieths-p c = omega (arith, ones_le seats c.loop-p.p c.loop-p-test.true)
 
 pub loop-p-preserved : goal.loop-p-preserved
 loop-p-preserved c =

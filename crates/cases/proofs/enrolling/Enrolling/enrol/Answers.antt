@@ -36,10 +36,7 @@ invariant_of-self g c =
     let f = g.L.Life.count life in
     let zeroth = ap (λ (ys : List ℕ). get_or ys 0 0) c.column-counts.ensures in
     let p = worked xs c.args.seat (column f) c.from.result c.from-2.result was.columns (omega arith) (sym c.in-Empty.ensures) (c.from.ensures ∙ zeroth) (c.from-2.ensures ∙ c.product.ensures) in
-    let is = sym (c.seat.ensures ∙ ap (λ ys. set xs c.args.seat (living ys)) c.column-counts.ensures) in (
-      subst Columns is (columns_set xs c.args.seat (living (column f)) (column_long f) (column-falls f (g.met.L.Life.ended life) (g.met.L.Life.falling life)) was.columns),
-      (subst (Within first) is (enrolled-within xs c.args.seat (column f) (omega (arith, zeroth, c.if-first-eq0.false)) (omega (arith, p)) was.within), tt),
-    )
+    let is = sym (c.seat.ensures ∙ ap (λ ys. set xs c.args.seat (living ys)) c.column-counts.ensures) in record { columns = subst Columns is (columns_set xs c.args.seat (living (column f)) (column_long f) (column-falls f (g.met.L.Life.ended life) (g.met.L.Life.falling life)) was.columns); within = subst (Within first) is (enrolled-within xs c.args.seat (column f) (omega (arith, zeroth, c.if-first-eq0.false)) (omega (arith, p)) was.within) }
 
 pub returns : goal.returns
 returns g c =

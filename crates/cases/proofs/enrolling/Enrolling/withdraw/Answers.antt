@@ -11,7 +11,7 @@ invariant_of-self c =
     let was = c.args.self.now in
     let xs = was.table.seats in
     let e = sym c.clear.ensures in
-    (subst Columns e (withdrawn_columns xs c.args.seat was.columns), (subst (Within first) e (withdrawn-within xs c.args.seat was.within), tt))
+    record { columns = subst Columns e (withdrawn_columns xs c.args.seat was.columns); within = subst (Within first) e (withdrawn-within xs c.args.seat was.within) }
 
 pub returns : goal.returns
 returns c =

@@ -15,16 +15,7 @@ pub invariant_of-result : goal.invariant_of-result
 invariant_of-result c =
     let me = c.args.self.now in
     let b = shown_book me in
-    let e = sym (held_found b (shown_columns me) (shown_within me) c.args.year c.named-named.result c.loop-seat.found c.loop-seat.invariant.0 (λ i h. c.loop-seat.invariant.1 i (omega arith))) in (
-      c.loop-seat.invariant.0,
-      (
-        subst Sound e (held_sound b (shown_columns me) (shown_within me) c.args.year c.named-named.result),
-        (
-          subst Present e (held-present b (shown_columns me) (shown_within me) c.args.year c.named-named.result),
-          (subst (λ (xs : List Exposure). D xs ≤ 10 ^ 16) e (held_small b (shown_within me) c.args.year c.named-named.result), tt),
-        ),
-      ),
-    )
+    let e = sym (held_found b (shown_columns me) (shown_within me) c.args.year c.named-named.result c.loop-seat.found c.loop-seat.invariant.0 (λ i h. c.loop-seat.invariant.1 i (omega arith))) in record { long = c.loop-seat.invariant.0; sound = subst Sound e (held_sound b (shown_columns me) (shown_within me) c.args.year c.named-named.result); present = subst Present e (held-present b (shown_columns me) (shown_within me) c.args.year c.named-named.result); small = subst (λ (xs : List Exposure). D xs ≤ 10 ^ 16) e (held_small b (shown_within me) c.args.year c.named-named.result) }
 
 pub returns : goal.returns
 returns c =

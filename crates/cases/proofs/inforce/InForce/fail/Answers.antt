@@ -8,7 +8,4 @@ pub invariant_of-self : goal.invariant_of-self
 invariant_of-self c =
     let was = c.args.self.now in
     let seats = was.table.seats in
-    let e = sym c.fail.ensures in (
-      subst Columns e (failed_columns seats c.args.seat (omega arith) was.columns),
-      (subst (Within (present was.elapsed)) e (failed-within was.elapsed seats c.args.seat was.within), (was.young, tt)),
-    )
+    let e = sym c.fail.ensures in record { columns = subst Columns e (failed_columns seats c.args.seat (omega arith) was.columns); within = subst (Within (present was.elapsed)) e (failed-within was.elapsed seats c.args.seat was.within); young = was.young }

@@ -6,25 +6,25 @@ use Rattle.annuities.proofs.cuts.probability.Goals as goal
 pub overflow_mul-part : goal.overflow_mul-part
 overflow_mul-part c =
     let w = c.args.weight.now in
-    record { fits = omega (arith, c.loop-place.invariant.0, digits_below w.weight w.full c.loop-place.-place w.part (omega arith)) }
+    record { fits = omega (arith, c.loop-place.invariant.0, digits_below w.weight w.full c.loop-place._place w.part (omega arith)) }
 
 pub overflow_add-part : goal.overflow_add-part
 overflow_add-part c =
     let w = c.args.weight.now in
-    let e = ap₂ (λ (q r : ℕ). q * 10 + r * 10 / w.full) c.loop-place.invariant.0 c.loop-place.invariant.1 ∙ next_digit w.weight w.full c.loop-place.-place w.some in
-    record { fits = omega (arith, e, digits_below w.weight w.full (c.loop-place.-place + 1) w.part (omega arith)) }
+    let e = ap₂ (λ (q r : ℕ). q * 10 + r * 10 / w.full) c.loop-place.invariant.0 c.loop-place.invariant.1 ∙ next_digit w.weight w.full c.loop-place._place w.some in
+    record { fits = omega (arith, e, digits_below w.weight w.full (c.loop-place._place + 1) w.part (omega arith)) }
 
 pub loop-place-preserved : goal.loop-place-preserved
 loop-place-preserved c =
     let w = c.args.weight.now in (
-      ap₂ (λ (q r : ℕ). q * 10 + r * 10 / w.full) c.loop-place.invariant.0 c.loop-place.invariant.1 ∙ next_digit w.weight w.full c.loop-place.-place w.some,
-      ap (λ (r : ℕ). r * 10 % w.full) c.loop-place.invariant.1 ∙ next_rest w.weight w.full c.loop-place.-place w.some,
+      ap₂ (λ (q r : ℕ). q * 10 + r * 10 / w.full) c.loop-place.invariant.0 c.loop-place.invariant.1 ∙ next_digit w.weight w.full c.loop-place._place w.some,
+      ap (λ (r : ℕ). r * 10 % w.full) c.loop-place.invariant.1 ∙ next_rest w.weight w.full c.loop-place._place w.some,
     )
 
 pub returns : goal.returns
 returns c =
     let w = c.args.weight.now in
-    let e : c.loop-place.-place ≡ 8 = omega arith in
+    let e : c.loop-place._place ≡ 8 = omega arith in
     let v = c.loop-place.invariant.0 ∙ ap (λ (n : ℕ). w.weight * 10 ^ n / w.full) e in
     record { value = v; bound = le_trans (le_of_eq v) (digits_below w.weight w.full 8 w.part (omega arith)) }
 

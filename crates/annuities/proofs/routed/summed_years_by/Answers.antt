@@ -58,9 +58,9 @@ loop-year-preserved c =
     let t = c.loop-year.year in
     let weighs = c.weigh-weight.ensures.sum ∙ (λ j. answer_over c.args.route (c.exposures_shown-exposures.ensures j) (c.named.ensures j) (λ p. get_or (c.shares.ensures j).twentieths p 0)) ∙ answers b (shown_columns me) (shown_within me) x t c.args.route c.requires in
     let fulls = c.weigh-weight.ensures.full ∙ ap (λ (xs : List Exposure). 20 * D xs) c.exposures_shown-exposures.ensures ∙ full_is b (shown_columns me) x t in
-    let y = c.yearly_factor.ensures.value ∙ (λ j. yearly (weighs j) (fulls j) (c.loop-year.invariant.2 j)) in (
+    let y = c.yearly-factor.ensures.value ∙ (λ j. yearly (weighs j) (fulls j) (c.loop-year.invariant.2 j)) in (
       ap₂ ◌+◌ c.loop-year.invariant.0 y ∙ sym (below_next ◌+◌ 0 (yearly_of b x i) t),
-      omega (arith, c.loop-year.invariant.1, c.yearly_factor.ensures.bound),
+      omega (arith, c.loop-year.invariant.1, c.yearly-factor.ensures.bound),
       c.next-discount.ensures.value ∙ ap (λ (v : ℕ). v * 10000 / (10000 + i)) c.loop-year.invariant.2 ∙ sym (discount_next i t),
       le_trans c.next-discount.ensures.bound c.loop-year.invariant.3,
     )

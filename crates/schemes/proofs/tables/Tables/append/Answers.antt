@@ -7,7 +7,7 @@ use Rattle.schemes.proofs.tables.Tables.append.Goals as goal
 pub invariant_of-self : goal.invariant_of-self
 invariant_of-self c =
     let t = c.in-Some.ensures in
-    (sound_set c.args.self.now.tables c.args.i c.in-Some.table c.args.self.now.sound (omega arith) t.2 t.3, tt)
+    record { sound = sound_set c.args.self.now.tables c.args.i c.in-Some.table c.args.self.now.sound (omega arith) t.2 t.3 }
 
 pub returns-then-i-lt-TABLES : goal.returns-then-i-lt-TABLES
 returns-then-i-lt-TABLES c =

@@ -1,6 +1,5 @@
 -- Discounts start at 1 and never rise.
-use Rattle.std.proofs.Common.{◌≡◌, ℕ, zero, suc, ◌+◌, ◌*◌, ◌/◌, ◌^◌, ◌≤◌, refl, ap, le_trans, add-one, arith}
-use native.Mathlib.Nat.{div-le_of_le-mul}
+use Rattle.std.proofs.Common.{◌≡◌, ℕ, ◌+◌, ◌*◌, ◌/◌, refl, ap, add-one}
 use Rattle.annuities.specs.Discounts.{discount}
 
 pub discount-first : (i : ℕ) → 100000000 ≡ discount i 0

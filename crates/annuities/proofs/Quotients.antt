@@ -1,5 +1,5 @@
 -- The yearly factor lies at or below W v / F by less than 2, and is at most 1.
-use Rattle.std.proofs.Common.{ℕ, ◌+◌, ◌*◌, ◌/◌, ◌^◌, ◌<◌, ◌≤◌, le_trans, le_of_lt, mul-le-mul_right, mul-le-mul, mul-lt-mul_of_pos_right, div-mul-le_self, le_of_mul-le-mul_right, arith, lit<}
+use Rattle.std.proofs.Common.{ℕ, ◌+◌, ◌*◌, ◌^◌, ◌<◌, ◌≤◌, le_trans, le_of_lt, mul-le-mul_right, mul-le-mul, mul-lt-mul_of_pos_right, div-mul-le_self, le_of_mul-le-mul_right, arith, lit<}
 use native.Mathlib.Nat.{lt-div-mul-add}
 use Rattle.annuities.specs.Values.{probability, yearly, Cut}
 

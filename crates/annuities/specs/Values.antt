@@ -1,5 +1,5 @@
 -- Yearly factors, factor and value of a benefit by the book of a case, with each cut where it is made.
-use Rattle.std.specs.Prelude.{◌≡◌, ℕ, ◌+◌, ◌*◌, ◌/◌, ◌^◌, ◌<◌, ◌≤◌, Ok, Err, Result}
+use Rattle.std.specs.Prelude.{ℕ, ◌+◌, ◌*◌, ◌/◌, ◌^◌, ◌<◌, ◌≤◌, Ok, Err, Result}
 use Rattle.refusals.specs.declared.Refusal.{Refusal}
 use Rattle.patterns.specs.Patterns.{below}
 use Rattle.benefits.specs.declared.benefit.Benefit.{Benefit}

@@ -1,5 +1,5 @@
 -- Clauses one after another, and what they pay together.
-use Rattle.std.proofs.Common.{◌≡◌, ℕ, zero, suc, ◌+◌, ◌*◌, ◌<◌, ◌≤◌, ◌&&◌, leb, List, [], ◌∷◌, ◌++◌, length, get_or, replicate, Some, None, Ok, Err, Option, Result, sym, refl, ap, ◌∙◌, subst, ⊎_elim, append_assoc, append-nil, arith, length-append}
+use Rattle.std.proofs.Common.{◌≡◌, ℕ, zero, suc, ◌+◌, ◌*◌, ◌<◌, ◌≤◌, ◌&&◌, leb, List, [], ◌∷◌, ◌++◌, length, get_or, replicate, Some, None, Ok, Err, Option, Result, sym, refl, ap, ◌∙◌, subst, ⊎_elim, append_assoc, arith, length-append}
 use lib.Bits.{bit_or}
 use Rattle.std.proofs.lemmas.List.{get_or_past}
 use Rattle.std.proofs.lemmas.List.Sums.{fold_push, sum_by_push, sum_by-cons}
@@ -13,10 +13,9 @@ use Rattle.tokens.specs.Classes.{run_at}
 use Rattle.tokens.specs.declared.faults.Numbered.{Numbered}
 use Rattle.benefits.specs.declared.clauses.Clause.{Clause}
 use Rattle.benefits.specs.declared.faults.PartFault.{PartFault}
-use Rattle.benefits.specs.Carried.{in_clause}
 use Rattle.benefits.specs.Clauses.{ClauseVerdict, clauses_from, share_at, share_in, share_of, positive, paid, total, named_by}
-use Rattle.benefits.specs.Reads.{Say, reach, Faulty, Added}
-use Rattle.benefits.proofs.Parting.{from_within, from_past}
+use Rattle.benefits.specs.Reads.{Say, reach}
+use Rattle.benefits.proofs.Parting.{from_within}
 
 say_push : (ts : List (List ℕ)) (cs : List Clause) (t : List ℕ) (c : Clause) (p a : ℕ) → Say ts cs p a → ClauseVerdict (share_of t) (Ok c) 0 t p a → Say (ts ++ t ∷ []) (cs ++ c ∷ []) p a
 say_push [] [] t c p a h k = (k, tt)

@@ -1,5 +1,5 @@
 -- How a call is judged on the book, and what it then does.
-use Rattle.std.proofs.Common.{◌≡◌, ℕ, ◌+◌, ◌*◌, ◌<◌, ◌≤◌, ◌⊎◌, List, length, get_or, set, Ok, Err, sym, refl, ap, ◌∙◌, ⊎_elim}
+use Rattle.std.proofs.Common.{◌≡◌, ℕ, ◌<◌, ◌≤◌, ◌⊎◌, List, get_or, set, Ok, Err, ap, ⊎_elim}
 use Rattle.std.proofs.lemmas.Bool.{lt-leb, le-ltb, lt-ltb, eq-eqb, ne_eqb}
 use Rattle.refusals.specs.declared.Refusal.{Refusal}
 use Rattle.refusals.specs.declared.Refusal.TheVariants.{NoCount, ProductTooLarge}

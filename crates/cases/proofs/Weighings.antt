@@ -10,12 +10,12 @@ use Rattle.weights.specs.Exposures.{standing, lost, Sound, Present, D, none_coun
 use Rattle.weights.proofs.Counting.{none_count}
 use Rattle.weights.specs.Exposures.{seat_at as exposure_at}
 use Rattle.weights.specs.Patterns.{by_patterns, kept}
-use Rattle.weights.specs.Weights.{weight, product_named}
+use Rattle.weights.specs.Weights.{product_named}
 use Rattle.weights.proofs.Named.{length-kept, kept-all, kept_at, D-kept, weight-kept}
 use Rattle.seats.specs.declared.seat.Mark.{Mark}
 use Rattle.seats.specs.declared.seat.Mark.TheVariants.{Empty, Living, Failed}
 use Rattle.seats.specs.declared.seat.Seat.{Seat}
-use Rattle.seats.specs.Seats.{seat_at, count_at, alive, present, product, Columns, Within}
+use Rattle.seats.specs.Seats.{seat_at, alive, present, product, Columns, Within}
 use Rattle.seats.proofs.Products.{product_pos}
 use Rattle.benefits.specs.declared.benefit.Benefit.{Benefit}
 use Rattle.benefits.specs.Shares.{share}

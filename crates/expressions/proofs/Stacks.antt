@@ -1,10 +1,10 @@
 -- What a call on a stack leaves.
-use Rattle.std.proofs.Common.{◌≡◌, ℕ, ◌<◌, ◌≤◌, true, false, cond, List, [], ◌∷◌, map, length, Ok, Err, Result, sym, refl, ap, arith, MatchResult}
+use Rattle.std.proofs.Common.{◌≡◌, ℕ, ◌<◌, ◌≤◌, true, cond, List, [], ◌∷◌, map, length, Ok, Err, Result, refl, ap, arith, MatchResult}
 use Rattle.stacks.specs.Items.{rest}
 use Rattle.expressions.specs.declared.Word.{Word}
-use Rattle.expressions.specs.declared.Word.TheVariants.{Or, And, Not, Open}
-use lib.Bits.{bit_and, bit_or}
-use Rattle.expressions.specs.Layout.{is_top, top, complete_words, complete_masks, join_words, join_masks}
+use Rattle.expressions.specs.declared.Word.TheVariants.{Or}
+use lib.Bits.{bit_or}
+use Rattle.expressions.specs.Layout.{is_top, top, join_words, join_masks}
 
 pub pushed : {A E : Type 0} (r : Result A E) (P Q : Type 0) → MatchResult r (λ _. P) (λ _. Q) → (Q → ⊥) → P
 pushed (Ok x) P Q h no-q = h

@@ -1,5 +1,5 @@
 -- The loops over sets and orders of the route by counts: what they add, and how far from 0 their sums can be.
-use Rattle.std.proofs.Common.{◌≡◌, ℕ, zero, suc, ◌+◌, ◌*◌, ◌^◌, ◌<◌, ◌≤◌, Bool, cond, eqb, ◌≢◌, List, length, ℤ, pos, ◌+ℤ◌, ◌*ℤ◌, nat_abs, sym, refl, ap, ◌∙◌, subst, le_trans, le_of_eq, le-add_left, add-one, arith, eq-eqb, ne_eqb}
+use Rattle.std.proofs.Common.{◌≡◌, ℕ, suc, ◌+◌, ◌*◌, ◌^◌, ◌<◌, ◌≤◌, Bool, cond, eqb, ◌≢◌, List, length, ℤ, pos, ◌+ℤ◌, ◌*ℤ◌, nat_abs, sym, ap, ◌∙◌, subst, le_trans, le_of_eq, le-add_left, add-one, arith, eq-eqb, ne_eqb}
 use lib.Count.{ones}
 use Rattle.patterns.specs.Patterns.{size, flags, below}
 use Rattle.patterns.proofs.Loops.{below_next, below_part}

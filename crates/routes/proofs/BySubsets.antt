@@ -1,6 +1,6 @@
 -- The loops over patterns and sets of the route by subsets: what they add, and how far from 0 their sums can be.
-use Rattle.std.proofs.Common.{◌≡◌, ℕ, zero, suc, ◌+◌, ◌*◌, ◌^◌, ◌<◌, ◌≤◌, List, length, ℤ, pos, ◌+ℤ◌, ◌*ℤ◌, nat_abs, sym, refl, ap, ◌∙◌, subst, ap₂, le_trans, le_of_eq, mul-le-mul, arith}
-use Rattle.patterns.specs.Patterns.{Pattern, flags, number, all, below}
+use Rattle.std.proofs.Common.{◌≡◌, ℕ, zero, suc, ◌+◌, ◌*◌, ◌^◌, ◌<◌, ◌≤◌, List, length, ℤ, pos, ◌+ℤ◌, ◌*ℤ◌, nat_abs, sym, refl, ap, ◌∙◌, subst, le_trans, le_of_eq, mul-le-mul, arith}
+use Rattle.patterns.specs.Patterns.{Pattern, flags, number, below}
 use Rattle.patterns.proofs.Loops.{below_none, below_next, below-same, abs_add}
 use Rattle.patterns.proofs.Bridge.{bridgeℤ}
 use Rattle.weights.specs.declared.exposure.Exposure.{Exposure}

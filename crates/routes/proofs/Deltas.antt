@@ -1,5 +1,5 @@
 -- The difference by recursion, and how large a difference and a sign can be.
-use Rattle.std.proofs.Common.{◌≡◌, ℕ, zero, suc, ◌+◌, ◌-◌, ◌*◌, ◌^◌, ◌<◌, ◌≤◌, Bool, true, false, cond, ◌≢◌, ℤ, pos, negsuc, ◌-ℤ◌, neg_ℤ, nat_abs, sym, refl, ap, ◌∙◌, add-one, arith, pow_mono}
+use Rattle.std.proofs.Common.{◌≡◌, ℕ, zero, suc, ◌+◌, ◌-◌, ◌*◌, ◌^◌, ◌≤◌, Bool, true, false, cond, ◌≢◌, ℤ, pos, negsuc, ◌-ℤ◌, neg_ℤ, nat_abs, refl, ◌∙◌, add-one, arith, pow_mono}
 use native.Mathlib.Nat as NatL
 use Rattle.patterns.specs.Seats.{seats, patterns}
 use Rattle.patterns.specs.Patterns.{Pattern, within, size}

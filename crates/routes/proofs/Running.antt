@@ -1,5 +1,5 @@
 -- A product over the seats, as a loop makes it: one seat after another, the set's number halved on the way.
-use Rattle.std.proofs.Common.{◌≡◌, ℕ, zero, suc, ◌+◌, ◌*◌, ◌/◌, ◌%◌, ◌<◌, ◌≤◌, true, false, eqb, List, [], ◌∷◌, length, get_or, drop, sym, refl, ap, ◌∙◌, subst, add-one, arith, drop-cons}
+use Rattle.std.proofs.Common.{◌≡◌, ℕ, zero, suc, ◌+◌, ◌*◌, ◌/◌, ◌%◌, ◌<◌, ◌≤◌, eqb, List, [], ◌∷◌, length, drop, sym, refl, ap, ◌∙◌, subst, add-one, arith, drop-cons}
 use native.Mathlib.Nat as NatL
 use Rattle.patterns.specs.Patterns.{flags}
 use Rattle.weights.specs.declared.exposure.Exposure.{Exposure}

@@ -1,5 +1,5 @@
 -- The table of signs is right: one test of all its entries, which antt computes.
-use Rattle.std.proofs.Common.{◌≡◌, ℕ, zero, suc, ◌<◌, Bool, true, false, cond, ◌&&◌, T, eqb, List, [], ◌∷◌, get_or, ℤ, pos, negsuc, refl, ap, arith, eqb→eq, w8, to_z, of_z}
+use Rattle.std.proofs.Common.{◌≡◌, ℕ, zero, suc, ◌<◌, Bool, true, false, cond, ◌&&◌, T, eqb, List, [], get_or, ℤ, pos, negsuc, refl, ap, arith, eqb→eq, w8, to_z, of_z}
 use native.Mathlib.Decide.{ℕ_discrete}
 use Rattle.patterns.specs.Seats.{seats, patterns}
 use Rattle.patterns.specs.Patterns.{flags}

@@ -1,5 +1,5 @@
 -- The fields of a line, one on, and the numbers of a line that are kept.
-use Rattle.std.proofs.Common.{◌≡◌, ℕ, ◌+◌, ◌-◌, ◌<◌, Bool, false, cond, eqb, ◌⊎◌, List, [], ◌∷◌, ◌++◌, length, get_or, take, drop, set, Ok, Err, sym, ap, ◌∙◌, inl, inr, add_assoc, arith}
+use Rattle.std.proofs.Common.{◌≡◌, ℕ, ◌+◌, ◌-◌, ◌<◌, Bool, false, cond, eqb, List, [], ◌∷◌, ◌++◌, length, get_or, take, drop, set, Ok, Err, sym, ap, ◌∙◌, inl, inr, add_assoc, arith}
 use Rattle.std.proofs.lemmas.Bool.{cond-true, cond-false, cond_both, cases_lt, lt-ltb}
 use Rattle.std.proofs.lemmas.List.{get_or-take, take_all, length-append, length-drop, length-take-le, take_rest, drop-drop}
 use Rattle.cases.specs.Book.{Book}
@@ -9,7 +9,6 @@ use Rattle.lines.specs.Pieces.{pieces, onto, fields}
 use Rattle.refusals.specs.declared.Refusal.TheVariants.{Line, Counts}
 use Rattle.schemes.specs.declared.shape.Shape.TheVariants.{Amount}
 use Rattle.schemes.specs.declared.fault.Fault.TheVariants.{At}
-use Rattle.schemes.specs.declared.fault.Fault.{Fault}
 use Rattle.schemes.specs.Most.{most, year_count}
 use Rattle.schemes.specs.Syntax.{counted, shape, read, reads, by_read, first_field, given, amount, clauses_text}
 use Rattle.schemes.specs.Enrolment.{enrolled, enrolled_by, basis, joined, at_begin}

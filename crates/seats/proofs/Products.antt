@@ -1,5 +1,5 @@
 -- Products over the seats.
-use Rattle.std.proofs.Common.{◌≡◌, ℕ, zero, suc, ◌+◌, ◌*◌, ◌<◌, ◌≤◌, List, [], ◌∷◌, length, drop, set, sym, refl, ap, ◌∙◌, le_refl, le_of_suc-le-suc, not-suc-le-zero, mul-le-mul_right, mul_assoc, mul-le-mul, mul-le-mul_left, one-mul, mul-one, mul_left_comm, arith}
+use Rattle.std.proofs.Common.{◌≡◌, ℕ, zero, suc, ◌+◌, ◌*◌, ◌<◌, ◌≤◌, List, [], ◌∷◌, length, drop, set, sym, ap, ◌∙◌, le_of_suc-le-suc, not-suc-le-zero, mul-le-mul_right, mul_assoc, mul-le-mul, mul-le-mul_left, one-mul, mul-one, mul_left_comm, arith}
 use Rattle.std.proofs.lemmas.List.{drop_more}
 use Rattle.seats.specs.declared.seat.Seat.{Seat}
 use Rattle.seats.specs.Seats.{seat_at, product}

@@ -1,9 +1,8 @@
 -- The routes over the named seats alone: they agree, and no sum on the way is far from 0. For any number of seats.
 use Rattle.std.proofs.Common.{◌≡◌, ℕ, zero, suc, ◌+◌, ◌*◌, ◌^◌, ◌<◌, ◌≤◌, Bool, true, false, cond, T, eqb, List, [], ◌∷◌, length, ℤ, pos, ◌+ℤ◌, ◌*ℤ◌, nat_abs, sym, refl, ap, ◌∙◌, subst, ap₂, le_trans, le_of_eq, add-zero, add-suc, arith}
-use native.Mathlib.Nat as NatL
 use lib.Dec.{eqb-zero-suc}
 use lib.IntN.{*ℤ-zero, +ℤ_idr}
-use Rattle.patterns.specs.Patterns.{Pattern, size, within, number, flags, all, below}
+use Rattle.patterns.specs.Patterns.{Pattern, size, number, flags, all, below}
 use Rattle.patterns.proofs.Loops.{below-same, below_upto, below_part}
 use Rattle.patterns.proofs.Bridge.{bridgeℕ, bridgeℤ}
 use Rattle.patterns.proofs.Masks.{length-flags, size_le}
@@ -12,7 +11,7 @@ use Rattle.weights.specs.Exposures.{counted, standing, gone, lost, Sound, D}
 use Rattle.weights.specs.Differences.{sign, Δ}
 use Rattle.weights.specs.Numbers.{uneven, share_with}
 use Rattle.weights.specs.Weights.{times_of, inside, pattern_term, weight}
-use Rattle.weights.specs.Routes.{set_difference, set_product, subset_term, symmetric_term, symmetric_sum, count_term, reach}
+use Rattle.weights.specs.Routes.{set_difference, set_product, subset_term, symmetric_sum, count_term, reach}
 use Rattle.weights.specs.Patterns.{kept, times, by_patterns}
 use Rattle.weights.specs.AllSeats.{difference, by_subsets, S}
 use Rattle.weights.proofs.Subsets.{subsets}

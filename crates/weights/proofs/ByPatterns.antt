@@ -1,9 +1,9 @@
 -- The sum over all patterns, one seat after another.
-use Rattle.std.proofs.Common.{◌≡◌, ℕ, zero, suc, ◌+◌, ◌-◌, ◌*◌, ◌/◌, ◌^◌, ◌<◌, ◌≤◌, Bool, true, false, List, [], ◌∷◌, ◌++◌, length, get_or, take, sym, refl, ap, ◌∙◌, subst, ap₂, mul_left_comm, add-one, arith}
+use Rattle.std.proofs.Common.{◌≡◌, ℕ, zero, suc, ◌+◌, ◌*◌, ◌/◌, ◌^◌, ◌<◌, ◌≤◌, true, false, List, [], ◌∷◌, ◌++◌, length, get_or, take, sym, refl, ap, ◌∙◌, subst, ap₂, mul_left_comm, add-one, arith}
 use native.Mathlib.Nat as NatL
 use Rattle.std.proofs.lemmas.List.{take_more, take_all, length_push}
 use Rattle.patterns.specs.Patterns.{Pattern, all, number}
-use Rattle.patterns.proofs.Sums.{all_same, all_scale, all_two, add4}
+use Rattle.patterns.proofs.Sums.{all_scale, all_two, add4}
 use Rattle.weights.specs.declared.exposure.Exposure.{Exposure}
 use Rattle.weights.specs.Exposures.{counted, gone, seat_at, Sound, Present, D}
 use Rattle.weights.specs.Patterns.{times, by_patterns}

@@ -1,8 +1,8 @@
 -- The route by counts answers the sum over all patterns, where the share is one of the number alive, for any number of seats.
-use Rattle.std.proofs.Common.{◌≡◌, ℕ, zero, suc, ◌+◌, ◌-◌, ◌*◌, ◌<◌, ◌≤◌, Bool, true, false, cond, eqb, List, [], ◌∷◌, length, ℤ, pos, ◌+ℤ◌, ◌-ℤ◌, ◌*ℤ◌, sym, refl, ap, ◌∙◌, ap₂, mul-zero, arith}
+use Rattle.std.proofs.Common.{◌≡◌, ℕ, zero, suc, ◌+◌, ◌*◌, ◌<◌, Bool, true, false, cond, eqb, List, [], ◌∷◌, length, ℤ, pos, ◌+ℤ◌, ◌-ℤ◌, ◌*ℤ◌, sym, refl, ap, ◌∙◌, ap₂, mul-zero, arith}
 use lib.Dec.{eqb-zero-suc, eqb-suc-zero, eqb-suc-suc}
 use lib.IntN.{*ℤ-zero, +ℤ_idr, +ℤ_assoc}
-use Rattle.patterns.specs.Patterns.{Pattern, size, all, below}
+use Rattle.patterns.specs.Patterns.{size, all, below}
 use Rattle.patterns.proofs.Integers as Int
 use Rattle.patterns.proofs.Sums.{all_same, all_map, all_scale}
 use Rattle.patterns.proofs.Loops.{first, below-same, below_scaleℤ, below_sumℤ, below_subℤ, below_zeroℤ}

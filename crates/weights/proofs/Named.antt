@@ -1,14 +1,14 @@
 -- The weight of the named seats alone is the weight of all seats with a failed seat in place of each that is not named.
-use Rattle.std.proofs.Common.{◌≡◌, ℕ, zero, suc, ◌+◌, ◌-◌, ◌*◌, ◌/◌, ◌%◌, ◌^◌, ◌<◌, ◌≤◌, Bool, true, false, cond, eqb, List, [], ◌∷◌, length, get_or, sym, refl, ap, ◌∙◌, subst, ap₂, one-mul, mul-zero, zero-mul, arith}
+use Rattle.std.proofs.Common.{◌≡◌, ℕ, zero, suc, ◌+◌, ◌*◌, ◌/◌, ◌%◌, ◌^◌, ◌<◌, Bool, true, false, cond, eqb, List, [], ◌∷◌, length, get_or, sym, refl, ap, ◌∙◌, one-mul, mul-zero, zero-mul, arith}
 use native.Mathlib.Nat as NatL
 use Rattle.patterns.specs.Anys.{is_member}
-use Rattle.patterns.specs.Patterns.{Pattern, within, number, flags, all, below}
+use Rattle.patterns.specs.Patterns.{Pattern, within, number, flags, all}
 use Rattle.patterns.proofs.Loops.{below-same}
 use Rattle.patterns.proofs.Bridge.{bridgeℕ}
 use Rattle.weights.specs.declared.exposure.Exposure.{Exposure}
-use Rattle.weights.specs.Exposures.{counted, standing, gone, lost, seat_at, Sound, Present, D}
+use Rattle.weights.specs.Exposures.{counted, standing, gone, lost, seat_at, D}
 use Rattle.weights.specs.Patterns.{times, by_patterns, kept}
-use Rattle.weights.specs.Weights.{times_of, inside, pattern_term, weight, product_named}
+use Rattle.weights.specs.Weights.{times_of, inside, weight, product_named}
 
 -- ---- what is kept of the seats
 pub length-kept : (N : Pattern) (ls : List Exposure) → length (kept N ls) ≡ length ls

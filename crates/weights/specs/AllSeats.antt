@@ -1,5 +1,5 @@
 -- The other two routes over all seats, with the letters of Patterns. Only inner functions cite these.
-use Rattle.std.specs.Prelude.{ℕ, suc, ◌+◌, ◌*◌, cond, List, length, ℤ, pos, ◌+ℤ◌, ◌*ℤ◌, ◌==◌}
+use Rattle.std.specs.Prelude.{ℕ, suc, ◌+◌, cond, List, length, ℤ, pos, ◌+ℤ◌, ◌*ℤ◌, ◌==◌}
 use Rattle.patterns.specs.Patterns.{Pattern, size, all, below}
 use Rattle.weights.specs.declared.exposure.Exposure.{Exposure}
 use Rattle.weights.specs.Exposures.{counted, standing}

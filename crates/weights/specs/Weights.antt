@@ -3,7 +3,7 @@
 use Rattle.std.specs.Prelude.{ℕ, ◌+◌, ◌*◌, ◌^◌, Bool, true, false, cond, List, [], ◌∷◌, length}
 use Rattle.patterns.specs.Patterns.{Pattern, within, flags, below}
 use Rattle.weights.specs.declared.exposure.Exposure.{Exposure}
-use Rattle.weights.specs.Exposures.{counted, standing, gone}
+use Rattle.weights.specs.Exposures.{counted, gone}
 
 -- the product over the named seats of x of each in P and y of each other
 unfoldable pub times_of : {L : Type 0} → Pattern → (L → ℕ) → (L → ℕ) → List L → Pattern → ℕ

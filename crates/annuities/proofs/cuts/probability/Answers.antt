@@ -1,5 +1,5 @@
 -- The needs of `probability`.
-use Rattle.std.proofs.Common.{◌≡◌, ℕ, ◌+◌, ◌*◌, ◌/◌, ◌%◌, ◌^◌, ◌<◌, ◌≤◌, sym, refl, ap, ◌∙◌, ap₂, le_trans, le_of_eq, arith}
+use Rattle.std.proofs.Common.{◌≡◌, ℕ, ◌+◌, ◌*◌, ◌/◌, ◌%◌, ◌^◌, ◌<◌, sym, refl, ap, ◌∙◌, ap₂, le_trans, le_of_eq, arith}
 use Rattle.annuities.proofs.Decimals.{no_digit, all_rest, all_of, next_digit, next_rest, digits_below}
 use Rattle.annuities.proofs.cuts.probability.Goals as goal
 

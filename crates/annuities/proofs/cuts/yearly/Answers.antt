@@ -1,5 +1,5 @@
 -- The needs of `yearly`.
-use Rattle.std.proofs.Common.{◌≡◌, ℕ, ◌*◌, ◌/◌, ◌^◌, sym, ap, subst}
+use Rattle.std.proofs.Common.{ℕ, ◌*◌, ◌/◌, ◌^◌, sym, ap, subst}
 use Rattle.annuities.specs.Values.{Cut}
 use Rattle.annuities.proofs.Quotients.{cuts, at_most_one}
 use Rattle.annuities.proofs.cuts.yearly.Goals as goal

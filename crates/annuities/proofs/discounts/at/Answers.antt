@@ -1,5 +1,5 @@
 -- The needs of `at`.
-use Rattle.std.proofs.Common.{◌≡◌, ℕ, ◌+◌, ◌*◌, ◌/◌, ◌≤◌, sym, ap, ◌∙◌, le_trans, arith}
+use Rattle.std.proofs.Common.{ℕ, ◌+◌, ◌*◌, ◌/◌, sym, ap, ◌∙◌, le_trans, arith}
 use Rattle.annuities.proofs.Discounting.{discount-first, discount_next}
 use Rattle.annuities.proofs.discounts.at.Goals as goal
 

@@ -1,6 +1,5 @@
 -- The needs of `letters`.
 use Rattle.std.proofs.Common.{refl}
-use Rattle.expressions.specs.Grammar.{group}
 use Rattle.expressions.specs.States.{letters, closing, by_letters}
 use Rattle.expressions.proofs.Moving.{as_before, at-token, run_stuck}
 use Rattle.expressions.proofs.Reader.letters.Goals as goal

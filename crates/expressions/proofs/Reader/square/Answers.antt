@@ -1,6 +1,5 @@
 -- The needs of `square`.
 use Rattle.std.proofs.Common.{refl}
-use Rattle.expressions.specs.Grammar.{group}
 use Rattle.expressions.specs.States.{square, letters, by_square}
 use Rattle.expressions.proofs.Moving.{as_before, at-token, square_stuck}
 use Rattle.expressions.proofs.Reader.square.Goals as goal

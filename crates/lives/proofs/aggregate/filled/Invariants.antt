@@ -1,5 +1,5 @@
 -- What the loop of `filled` keeps.
-use Rattle.std.proofs.Common.{◌≡◌, ℕ, ◌+◌, ◌<◌, ◌≤◌, length, get_or}
+use Rattle.std.proofs.Common.{◌≡◌, ℕ, ◌<◌, ◌≤◌, length, get_or}
 use Rattle.lives.proofs.aggregate.filled.Given as goal
 
 abbrev pub invariant-loop-i : goal.invariant-loop-i

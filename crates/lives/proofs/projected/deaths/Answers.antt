@@ -1,5 +1,5 @@
 -- What is left to show of `deaths`.
-use Rattle.std.proofs.Common.{◌≡◌, ℕ, ◌*◌, ◌≤◌, mul-le-mul, arith, rules}
+use Rattle.std.proofs.Common.{ℕ, ◌*◌, ◌≤◌, mul-le-mul, arith, rules}
 use Rattle.lives.specs.Projection.{deaths}
 use Rattle.lives.proofs.projected.deaths.Goals as goal
 

@@ -1,5 +1,5 @@
 -- The needs of `shares_by_number`.
-use Rattle.std.proofs.Common.{◌≡◌, ℕ, ◌+◌, ◌≤◌, List, get_or, sym, subst, le_trans, le_of_eq, arith}
+use Rattle.std.proofs.Common.{◌≡◌, ℕ, ◌+◌, List, get_or, sym, subst, le_trans, le_of_eq, arith}
 use Rattle.patterns.specs.Seats.{seats, patterns}
 use Rattle.weights.proofs.Evens.{share_le}
 use Rattle.routes.proofs.ByNumber.{Tabled, tabled_none, tabled_in, tabled_out, tabled_all, ones_le}

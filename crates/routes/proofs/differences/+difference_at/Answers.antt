@@ -1,5 +1,5 @@
 -- The needs of `difference_at`.
-use Rattle.std.proofs.Common.{◌≡◌, ℕ, ◌+◌, ◌-◌, ◌*◌, ◌^◌, ◌≤◌, get_or, ℤ, ◌-ℤ◌, nat_abs, sym, ap, ◌∙◌, le_trans, le_of_eq, arith, w64, to_z, of_z}
+use Rattle.std.proofs.Common.{◌≡◌, ℕ, ◌+◌, ◌-◌, ◌*◌, ◌^◌, ◌≤◌, get_or, ◌-ℤ◌, nat_abs, sym, ap, ◌∙◌, le_trans, le_of_eq, arith, w64, to_z, of_z}
 use Rattle.std.proofs.lemmas.Int.{to_z-of_z, to_z_pos}
 use Rattle.weights.specs.Differences.{Δ}
 use Rattle.routes.proofs.Bits.{fits_known, read_known}

@@ -1,5 +1,5 @@
 -- The needs of `by_patterns`.
-use Rattle.std.proofs.Common.{◌≡◌, ℕ, ◌+◌, ◌-◌, ◌^◌, ◌<◌, ◌≤◌, length, sym, ap, ◌∙◌, subst, le_trans, arith}
+use Rattle.std.proofs.Common.{◌≡◌, ℕ, ◌+◌, ◌-◌, ◌^◌, ◌<◌, length, sym, ap, ◌∙◌, subst, le_trans, arith}
 use Rattle.patterns.specs.Seats.{seats}
 use Rattle.weights.proofs.ByPatterns.{Left, pairs_fit, small, full_small, left_first, left_next, all_done}
 use Rattle.weights.proofs.Forms.{D_pos}

@@ -1,6 +1,6 @@
 -- The needs of `sum_out`.
 use Rattle.std.proofs.Common.{ℕ, ◌+◌, ◌*◌, ◌^◌, ◌≤◌, get_or, sym, refl, subst, arith}
-use Rattle.weights.proofs.SumOut.{Summing, sum_next, pair_bound}
+use Rattle.weights.proofs.SumOut.{sum_next, pair_bound}
 use Rattle.weights.proofs.by_patterns.sum_out.Goals as goal
 
 pub overflow_add-sums-in-loop-p : goal.overflow_add-sums-in-loop-p

@@ -1,9 +1,9 @@
 -- What is left to show of `Enrolling::enrol`.
-use Rattle.std.proofs.Common.{◌≡◌, ℕ, ◌*◌, List, get_or, set, sym, ap, ◌∙◌, subst, arith}
+use Rattle.std.proofs.Common.{ℕ, List, get_or, set, sym, ap, ◌∙◌, subst, arith}
 use Rattle.lives.specs.Column.{column}
 use Rattle.lives.proofs.Columns.{column_long, column-falls}
 use Rattle.refusals.specs.declared.Refusal.TheVariants.{NoCount, ProductTooLarge}
-use Rattle.seats.specs.Seats.{living, first, product, Columns, Within}
+use Rattle.seats.specs.Seats.{living, first, Columns, Within}
 use Rattle.cases.specs.Book.{opened, enrol}
 use Rattle.cases.proofs.Judging.{refused, accepted, enrol_uncounted, enrol_too_large, enrol_accepted}
 use Rattle.cases.proofs.Sounds.{columns_set, enrolled-within, worked}

@@ -1,5 +1,5 @@
 -- What is left to show of `Enrolling::withdraw`.
-use Rattle.std.proofs.Common.{◌≡◌, sym, ap, ◌∙◌, subst, inl, inr, ⊎_elim, arith}
+use Rattle.std.proofs.Common.{sym, ap, ◌∙◌, subst, inl, inr, ⊎_elim, arith}
 use Rattle.seats.specs.Seats.{first, Columns, Within}
 use Rattle.cases.specs.Book.{opened, withdraw}
 use Rattle.cases.proofs.Judging.{accepted, withdraw_accepted}

@@ -1,5 +1,5 @@
 -- The needs of `difference`.
-use Rattle.std.proofs.Common.{◌≡◌, ℕ, ◌<◌, ◌≤◌, get_or, sym, ap, ◌∙◌, subst, arith, w64, to_z, of_z}
+use Rattle.std.proofs.Common.{ℕ, ◌<◌, ◌≤◌, get_or, ap, ◌∙◌, subst, arith, w64}
 use lib.Count.{ones}
 use Rattle.std.proofs.lemmas.Int.{to_z-of_z}
 use Rattle.patterns.specs.Seats.{seats}

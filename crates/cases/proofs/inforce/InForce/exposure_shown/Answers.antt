@@ -1,7 +1,6 @@
 -- The needs of `exposure_shown`.
-use Rattle.std.proofs.Common.{◌≡◌, ℕ, ◌+◌, List, get_or, sym, ap, ◌∙◌, rules}
+use Rattle.std.proofs.Common.{ℕ, ◌+◌, List, get_or, ap, rules}
 use Rattle.seats.specs.Seats.{seat_at}
-use Rattle.cases.specs.Book.{as_supposed}
 use Rattle.cases.proofs.Weighings.{late_count}
 use Rattle.cases.proofs.Supposed.{supposed_counts}
 use Rattle.cases.proofs.inforce.InForce.exposure_shown.Goals as goal

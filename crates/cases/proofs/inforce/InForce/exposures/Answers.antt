@@ -1,5 +1,5 @@
 -- The needs of `exposures`.
-use Rattle.std.proofs.Common.{◌≡◌, ℕ, ◌^◌, ◌<◌, ◌≤◌, List, sym, ap, ◌∙◌, subst, arith}
+use Rattle.std.proofs.Common.{ℕ, ◌^◌, ◌≤◌, List, sym, ap, ◌∙◌, subst, arith}
 use Rattle.weights.specs.declared.exposure.Exposure.{Exposure}
 use Rattle.weights.specs.Exposures.{Sound, Present, D}
 use Rattle.patterns.specs.Seats.{seats}

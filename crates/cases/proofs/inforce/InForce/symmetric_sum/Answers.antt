@@ -1,5 +1,5 @@
 -- The needs of `symmetric_sum`.
-use Rattle.std.proofs.Common.{◌≡◌, List, sym, ap, ◌∙◌, rules}
+use Rattle.std.proofs.Common.{List, ap, ◌∙◌, rules}
 use Rattle.weights.specs.declared.exposure.Exposure.{Exposure}
 use Rattle.weights.specs.AllSeats.{S}
 use Rattle.cases.specs.Views.{shown_book}

@@ -1,5 +1,5 @@
 -- The needs of `weigh`.
-use Rattle.std.proofs.Common.{◌≡◌, ℕ, ◌*◌, List, get_or, sym, ap, ◌∙◌, rules}
+use Rattle.std.proofs.Common.{◌*◌, List, get_or, sym, ap, ◌∙◌, rules}
 use Rattle.weights.specs.declared.exposure.Exposure.{Exposure}
 use Rattle.weights.specs.Exposures.{D}
 use Rattle.routes.specs.Routes.{answer_over}

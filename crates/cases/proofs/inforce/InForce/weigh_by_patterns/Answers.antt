@@ -1,5 +1,5 @@
 -- The needs of `weigh_by_patterns`.
-use Rattle.std.proofs.Common.{◌≡◌, ℕ, ◌*◌, List, get_or, sym, ap, ◌∙◌}
+use Rattle.std.proofs.Common.{◌*◌, List, get_or, sym, ap, ◌∙◌}
 use Rattle.patterns.specs.Patterns.{number}
 use Rattle.weights.specs.declared.exposure.Exposure.{Exposure}
 use Rattle.weights.specs.Exposures.{D}

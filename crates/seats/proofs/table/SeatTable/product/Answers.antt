@@ -1,5 +1,5 @@
 -- What is left to show of `SeatTable::product`.
-use Rattle.std.proofs.Common.{◌≡◌, ℕ, ◌+◌, ◌*◌, drop, sym, ap, ◌∙◌, mul-one, arith}
+use Rattle.std.proofs.Common.{◌≡◌, ◌+◌, ◌*◌, drop, sym, ap, ◌∙◌, mul-one, arith}
 use Rattle.std.proofs.lemmas.List.{drop_all}
 use Rattle.seats.specs.Seats.{seat_at, product, first}
 use Rattle.seats.proofs.Products.{product_more, product-within}

@@ -1,7 +1,7 @@
 -- What clauses pay depends only on the seats that they name.
 use Rattle.std.proofs.Common.{◌≡◌, ℕ, ◌<◌, cond, List, [], ◌∷◌, get_or, Some, None, Ok, fold, Option, sym, refl, ap, ◌∙◌, arith, lit<}
 use lib.Bits.{bit_and, bit_or, and_comm, and_le_l, and_self, or_comm, or_lt}
-use Rattle.std.specs.List.{AllByRecursion as All}
+use Rattle.std.specs.List.{AllByRecursion}
 use Rattle.std.proofs.lemmas.List.Sums.{sum_by-cons}
 use Rattle.patterns.specs.Seats.{seats, patterns}
 use Rattle.expressions.specs.declared.Reading.{Reading}
@@ -24,7 +24,7 @@ within-named s n (c ∷ cs) h = within-named s (bit_or n c.reading.named) cs (wi
 within_own : (n s : ℕ) → Within s (bit_or n s)
 within_own n s = ap (bit_and s) (or_comm n s) ∙ within_more s s n (and_self s)
 
-each_named : (n : ℕ) (cs : List Clause) → All (λ c. Within c.reading.named (named_from n cs)) cs
+each_named : (n : ℕ) (cs : List Clause) → AllByRecursion (λ c. Within c.reading.named (named_from n cs)) cs
 each_named n [] = tt
 each_named n (c ∷ cs) = (within-named c.reading.named (bit_or n c.reading.named) cs (within_own n c.reading.named), each_named (bit_or n c.reading.named) cs)
 
@@ -32,13 +32,13 @@ verdict_own : (o : Option ℕ) (c : Clause) (t : List ℕ) (p a : ℕ) → Claus
 verdict_own None c t p a h = let z : ◌≡◌ {A = ℕ} 0 1 = cc in absurd (omega arith)
 verdict_own (Some n) c t p a h = answered_own (Ok c.reading) (expression_of t) p a h.1
 
-all_own : (ts : List (List ℕ)) (cs : List Clause) (p a : ℕ) → Say ts cs p a → All (λ c. Own c.reading) cs
+all_own : (ts : List (List ℕ)) (cs : List Clause) (p a : ℕ) → Say ts cs p a → AllByRecursion (λ c. Own c.reading) cs
 all_own [] [] p a h = tt
 all_own [] (c ∷ cs) p a h = absurd h
 all_own (t ∷ ts) [] p a h = absurd h
 all_own (t ∷ ts) (c ∷ cs) p a h = (verdict_own (share_of t) c t p a h.0, all_own ts cs p a h.1)
 
-small_named : (n : ℕ) (cs : List Clause) → n < patterns → All (λ c. Own c.reading) cs → named_from n cs < patterns
+small_named : (n : ℕ) (cs : List Clause) → n < patterns → AllByRecursion (λ c. Own c.reading) cs → named_from n cs < patterns
 small_named n [] h own = h
 small_named n (c ∷ cs) h own = small_named (bit_or n c.reading.named) cs (or_lt seats n c.reading.named h own.0.few) own.1
 
@@ -48,7 +48,7 @@ yes_own x q n lt own h =
     let part : bit_and (bit_and q n) x.named ≡ bit_and q x.named = and_assoc q n x.named ∙ ap (bit_and q) (and_comm n x.named ∙ h) in
     own.own q lt ∙ ap (yes x) (sym part) ∙ sym (own.own (bit_and q n) (omega (arith, and_le_l q n)))
 
-total_own : (cs : List Clause) (q n : ℕ) → q < patterns → All (λ c. Own c.reading) cs → All (λ c. Within c.reading.named n) cs → total cs q ≡ total cs (bit_and q n)
+total_own : (cs : List Clause) (q n : ℕ) → q < patterns → AllByRecursion (λ c. Own c.reading) cs → AllByRecursion (λ c. Within c.reading.named n) cs → total cs q ≡ total cs (bit_and q n)
 total_own [] q n lt own within = refl
 total_own (c ∷ cs) q n lt own within =
     let here : paid c q ≡ paid c (bit_and q n) = ap (λ b. cond b c.share 0) (yes_own c.reading q n lt own.0 within.0) in

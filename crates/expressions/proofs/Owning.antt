@@ -2,7 +2,7 @@
 use Rattle.std.proofs.Common.{◌≡◌, ℕ, zero, suc, ◌<◌, Bool, true, false, not as nay, ◌&&◌, ◌||◌, eqb, ltb, leb, List, [], ◌∷◌, length, Some, None, Ok, Err, MatchBool, Option, Result, sym, refl, ap, ◌∙◌, subst, arith, lit<}
 use lib.Bits.{bit_and, bit_or, or_lt, and_self, and_le_l}
 use lib.Count.{ones}
-use Rattle.std.specs.List.{AllByRecursion as All}
+use Rattle.std.specs.List.{AllByRecursion}
 use Rattle.patterns.specs.Seats.{seats, patterns}
 use Rattle.tokens.specs.declared.Code.{Code}
 use Rattle.tokens.specs.declared.Token.{Token}
@@ -39,7 +39,7 @@ holds_own (and a b) p n h = λ i. holds_own a p n (within_left (seats_in a) (sea
 holds_own (or a b) p n h = λ i. holds_own a p n (within_left (seats_in a) (seats_in b) n h) i || holds_own b p n (within_right (seats_in a) (seats_in b) n h) i
 
 abbrev Small : List Token → Type 0
-Small ts = All (λ t. seats_of t.code < patterns) ts
+Small ts = AllByRecursion (λ t. seats_of t.code < patterns) ts
 
 abbrev SmallCut : Result (List Token) TokenFault → Type 0
 SmallCut (Ok ts) = Small ts

@@ -1,6 +1,6 @@
 -- Pieces, from where the first stop stands.
 use Rattle.std.proofs.Common.{◌≡◌, ℕ, zero, suc, ◌+◌, ◌-◌, ◌<◌, ◌≤◌, true, false, eqb, List, [], ◌∷◌, length, get_or, take, drop, sym, refl, ap, ◌∙◌, arith}
-use Rattle.std.specs.List.{AllByRecursion as All}
+use Rattle.std.specs.List.{AllByRecursion}
 use Rattle.std.proofs.lemmas.Bool.{ne_eqb, eq-eqb, eqb-true, eqb-false, cond_both}
 use Rattle.std.proofs.lemmas.List.{take_rest, drop_more, drop_all, take_all, length-take-le, drop-drop}
 use Rattle.writing.specs.Printed.{spaced}
@@ -32,16 +32,16 @@ spaced-pieces (c ∷ cs) =
     (λ e. spaced-onto c (pieces 32 cs) cs (spaced-pieces cs))
 
 abbrev Bare : List ℕ → Type 0
-Bare f = All (λ c. c ≡ 32 → ⊥) f
+Bare f = AllByRecursion (λ c. c ≡ 32 → ⊥) f
 
-bare_onto : (c : ℕ) (ps : List (List ℕ)) → (c ≡ 32 → ⊥) → All Bare ps → All Bare (onto c ps)
+bare_onto : (c : ℕ) (ps : List (List ℕ)) → (c ≡ 32 → ⊥) → AllByRecursion Bare ps → AllByRecursion Bare (onto c ps)
 bare_onto c [] n h = ((n, tt), tt)
 bare_onto c (p ∷ ps) n h = ((n, h.0), h.1)
 
-bare_pieces : (bs : List ℕ) → All Bare (pieces 32 bs)
+bare_pieces : (bs : List ℕ) → AllByRecursion Bare (pieces 32 bs)
 bare_pieces [] = (tt, tt)
 bare_pieces (c ∷ cs) =
-    cond_both (eqb c 32) ([] ∷ pieces 32 cs) (onto c (pieces 32 cs)) (All Bare)
+    cond_both (eqb c 32) ([] ∷ pieces 32 cs) (onto c (pieces 32 cs)) (AllByRecursion Bare)
     (λ e. (tt, bare_pieces cs)) (λ e. bare_onto c (pieces 32 cs) (eqb-false c 32 e) (bare_pieces cs))
 
 pub fields_stand : FieldsStand

@@ -1,6 +1,6 @@
 -- Text that is parted by a byte.
 use Rattle.std.specs.Prelude.{◌≡◌, ℕ, cond, List, [], ◌∷◌, ◌==◌, ◌≢◌}
-use Rattle.std.specs.List.{AllByRecursion as All}
+use Rattle.std.specs.List.{AllByRecursion}
 use Rattle.writing.specs.Printed.{spaced}
 
 -- a byte before the first piece
@@ -25,4 +25,4 @@ Opens (c ∷ cs) = c ≡ 32
 
 -- fields written one after another, each after a space, are read back
 abbrev pub FieldsStand : Type 0
-FieldsStand = (rest : List ℕ) → Opens rest → (spaced (fields rest) ≡ rest) × All (λ f. All (λ c. c ≢ 32) f) (fields rest)
+FieldsStand = (rest : List ℕ) → Opens rest → (spaced (fields rest) ≡ rest) × AllByRecursion (λ f. AllByRecursion (λ c. c ≢ 32) f) (fields rest)

@@ -4,7 +4,7 @@ use lib.Bits.{bit_or, or_lt}
 use lib.Pow.{pow-lt}
 use Rattle.std.specs.Str.{bytes_eq}
 use Rattle.std.proofs.lemmas.Bool.Decides.{nat_tests}
-use Rattle.std.specs.List.{AllByRecursion as All}
+use Rattle.std.specs.List.{AllByRecursion}
 use Rattle.patterns.specs.Seats.{seats, patterns}
 use Rattle.refusals.specs.declared.Refusal.TheVariants.{UnknownByte, UnknownWord, NotRising}
 use Rattle.tokens.specs.declared.classes.Class.TheVariants.{Space, Lower, Seat}
@@ -44,7 +44,7 @@ few_else false c o h k = k
 bit_small : (b : ℕ) → member Seat b ≡ true → bit_of b < patterns
 bit_small b h = let low : 65 ≤ b = grind (arith, nat_tests) in let high : b < 65 + seats = grind (arith, nat_tests) in pow-lt {i = b - 65} {j = seats} (omega arith)
 
-set_small : (last set : ℕ) (bs : List ℕ) → set < patterns → All (λ b. member Seat b ≡ true) bs → FewIn (set_of last set bs)
+set_small : (last set : ℕ) (bs : List ℕ) → set < patterns → AllByRecursion (λ b. member Seat b ≡ true) bs → FewIn (set_of last set bs)
 set_small last set [] small h = small
 set_small last set (b ∷ bs) small h = either FewIn (ltb last b) (set_of b (bit_or set (bit_of b)) bs) None (set_small b (bit_or set (bit_of b)) bs (or_lt seats set (bit_of b) small (bit_small b h.0)) h.1) tt
 

@@ -102,10 +102,10 @@ pub closing_stuck : (g : Group) (s : ℕ) (k : part.Open factor) (c : Code) → 
 closing_stuck g s k c n s' by_closing = n refl
 
 pub as_before : (r : Reader) → Kept r r
-as_before r = record { pending_room = refl; answers_room = refl; same-named = refl }
+as_before r = record { pending_room = refl; answers_room = refl; same_named = refl }
 
 pub kept_on : (r s t : Reader) → Kept r s → Kept s t → Kept r t
-kept_on r s t h k = record { pending_room = k.pending_room ∙ h.pending_room; answers_room = k.answers_room ∙ h.answers_room; same-named = k.same-named ∙ h.same-named }
+kept_on r s t h k = record { pending_room = k.pending_room ∙ h.pending_room; answers_room = k.answers_room ∙ h.answers_room; same_named = k.same_named ∙ h.same_named }
 
 -- the token is d
 pub at-token : (s : State) {c d : Code} {r : Reader} → c ≡ d → Moved s d r → Moved s c r

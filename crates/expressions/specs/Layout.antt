@@ -25,7 +25,7 @@ masks_in r = items r.answers
 pub record Kept (r s : Reader) : Type 0 where
   pub pending_room : room s.pending ≡ room r.pending
   pub answers_room : room s.answers ≡ room r.answers
-  pub same-named : s.named ≡ r.named
+  pub same_named : s.named ≡ r.named
 
 -- a number for each word, to tell them apart
 abbrev pub rank : Word → ℕ

@@ -33,8 +33,8 @@ Took (Err e) s t r = (e ≡ wrong t.place) × Stuck s t.code
 pub record Same (r s : Reader) : Type 0 where
   pub pending_room : room s.pending ≡ room r.pending
   pub answers_room : room s.answers ≡ room r.answers
-  pub same-words : words_in s ≡ words_in r
-  pub same-masks : masks_in s ≡ masks_in r
+  pub same_words : words_in s ≡ words_in r
+  pub same_masks : masks_in s ≡ masks_in r
   pub same_expect : s.expect ≡ r.expect
 
 -- what the text's end says

@@ -1,4 +1,6 @@
 // What a session holds between two lines.
+ghost use Rattle.std.specs.Prelude.{IsNone};
+
 use cases::enrolling::Enrolling;
 use cases::inforce::InForce;
 use schemes::tables::Tables;
@@ -13,6 +15,7 @@ pub enum Phase {
     InForce,
 }
 
+// No line supposes anything.
 #[derive(Drop)]
 pub struct Session {
     phase: Phase,
@@ -20,4 +23,5 @@ pub struct Session {
     inforce: InForce,
     tables: Tables,
     rate: u32,
+    ghost plain: { IsNone inforce.supposed },
 }

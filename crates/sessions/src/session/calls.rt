@@ -1,4 +1,5 @@
 // The lines that call the case.
+ghost use Rattle.std.specs.Prelude.{◌≡◌};
 ghost use Rattle.cases.specs.Views.{enrolling_book, in_force_book};
 ghost use Rattle.schemes.specs.Enrolment.{Leaves};
 ghost use Rattle.schemes.specs.Syntax.{amount};
@@ -29,7 +30,8 @@ pub(super) fn withdraw(case: &mut Enrolling, rest: &[u8]) -> Result<(), Fault>
 
 // X seat
 pub(super) fn fail(case: &mut InForce, rest: &[u8]) -> Result<(), Fault>
-    ensures { Leaves (failed rest.now (in_force_book case.old)) result (in_force_book case.new) (in_force_book case.old) }
+    ensures book { Leaves (failed rest.now (in_force_book case.old)) result (in_force_book case.new) (in_force_book case.old) }
+    ensures supposed { case.new.supposed ≡ case.old.supposed }
 {
     let seat = only_number(Kind::Fail, rest)?;
     case.fail(seat as usize)?;
@@ -38,7 +40,8 @@ pub(super) fn fail(case: &mut InForce, rest: &[u8]) -> Result<(), Fault>
 
 // Y
 pub(super) fn year_end(case: &mut InForce, rest: &[u8]) -> Result<(), Fault>
-    ensures { Leaves (aged rest.now (in_force_book case.old)) result (in_force_book case.new) (in_force_book case.old) }
+    ensures book { Leaves (aged rest.now (in_force_book case.old)) result (in_force_book case.new) (in_force_book case.old) }
+    ensures supposed { case.new.supposed ≡ case.old.supposed }
 {
     no_number(Kind::YearEnd, rest)?;
     case.year_end()?;

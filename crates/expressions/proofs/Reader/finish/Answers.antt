@@ -12,7 +12,7 @@ returns-then-is_spent c = λ s f.
     let j = c.join.ensures in
     let there : words_in c.join.new.self ≡ words_of (outer k) = j.words ∙ ap join_words (f.waiting ∙ ap words is) ∙ joined_words k in
     let known : masks_in c.join.new.self ≡ mask_of (joined k a) ∷ masks_of (outer k) = j.masks ∙ (λ i. join_masks ((f.waiting ∙ ap words is) i) ((f.answering ∙ ap masks is) i)) ∙ joined-masks k a in
-    (joined k a, subst (λ x. Ends x (joined k a)) (sym is) (ends (nothing_open (outer k) (ap is_nil (sym there) ∙ sym c.if-is_spent.ensures))), c.unwrap_or-answers.ensures ∙ ap (λ o. unwrap_or o 0) c.top.ensures ∙ ap top known, j.kept.same-named)
+    (joined k a, subst (λ x. Ends x (joined k a)) (sym is) (ends (nothing_open (outer k) (ap is_nil (sym there) ∙ sym c.if-is_spent.ensures))), c.unwrap_or-answers.ensures ∙ ap (λ o. unwrap_or o 0) c.top.ensures ∙ ap top known, j.kept.same_named)
 
 pub returns-else-is_spent : goal.returns-else-is_spent
 returns-else-is_spent c = λ s f.

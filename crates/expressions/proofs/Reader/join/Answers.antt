@@ -20,7 +20,7 @@ returns-then-is_top c =
     let b : c.unwrap_or-b.result ≡ top (masks_in self) = c.unwrap_or-b.ensures ∙ ap (λ o. unwrap_or o 0) q.value in
     let a : c.unwrap_or-a.result ≡ top (rest (masks_in self)) = c.unwrap_or-a.ensures ∙ ap (λ o. unwrap_or o 0) r.value ∙ ap top q.after in
     record {
-      kept = record { pending_room = p.room; answers_room = c.push.ensures.room ∙ r.room ∙ q.room; same-named = refl };
+      kept = record { pending_room = p.room; answers_room = c.push.ensures.room ∙ r.room ∙ q.room; same_named = refl };
       words = ap (map (λ x. x.word)) p.after ∙ map-rest (λ x. x.word) (items self.pending) ∙ sym (join_words_is (words_in self) is);
       masks = more ∙ (λ i. bit_or (a i) (b i) ∷ left i) ∙ sym (join_masks_is (words_in self) (masks_in self) is);
       expect = refl;

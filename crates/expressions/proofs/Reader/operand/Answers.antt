@@ -21,16 +21,16 @@ returns-in-Open c =
     record { kept = w.kept; took = λ k f. at-token (operand k) c.in-Open.is (operand (lone (first (inside k))), by_open, record { expecting = w.expect; waiting = w.words ∙ ap (λ x. Open ∷ x) f.waiting; answering = w.masks ∙ f.answering }) }
 
 pub returns-in-Joint : goal.returns-in-Joint
-returns-in-Joint c = record { kept = record { pending_room = refl; answers_room = refl; same-named = refl }; took = λ k f. at-token (operand k) c.in-Joint.is (square kind.Joint k, by_joint, record { expecting = refl; waiting = f.waiting; answering = f.answering }) }
+returns-in-Joint c = record { kept = record { pending_room = refl; answers_room = refl; same_named = refl }; took = λ k f. at-token (operand k) c.in-Joint.is (square kind.Joint k, by_joint, record { expecting = refl; waiting = f.waiting; answering = f.answering }) }
 
 pub returns-in-Last : goal.returns-in-Last
-returns-in-Last c = record { kept = record { pending_room = refl; answers_room = refl; same-named = refl }; took = λ k f. at-token (operand k) c.in-Last.is (square kind.Last k, by_last, record { expecting = refl; waiting = f.waiting; answering = f.answering }) }
+returns-in-Last c = record { kept = record { pending_room = refl; answers_room = refl; same_named = refl }; took = λ k f. at-token (operand k) c.in-Last.is (square kind.Last k, by_last, record { expecting = refl; waiting = f.waiting; answering = f.answering }) }
 
 pub returns-in-Exactly : goal.returns-in-Exactly
-returns-in-Exactly c = record { kept = record { pending_room = refl; answers_room = refl; same-named = refl }; took = λ k f. at-token (operand k) c.in-Exactly.is (digit Exact k, by_exactly, record { expecting = refl; waiting = f.waiting; answering = f.answering }) }
+returns-in-Exactly c = record { kept = record { pending_room = refl; answers_room = refl; same_named = refl }; took = λ k f. at-token (operand k) c.in-Exactly.is (digit Exact k, by_exactly, record { expecting = refl; waiting = f.waiting; answering = f.answering }) }
 
 pub returns-in-AtLeast : goal.returns-in-AtLeast
-returns-in-AtLeast c = record { kept = record { pending_room = refl; answers_room = refl; same-named = refl }; took = λ k f. at-token (operand k) c.in-AtLeast.is (digit Least k, by_atleast, record { expecting = refl; waiting = f.waiting; answering = f.answering }) }
+returns-in-AtLeast c = record { kept = record { pending_room = refl; answers_room = refl; same_named = refl }; took = λ k f. at-token (operand k) c.in-AtLeast.is (digit Least k, by_atleast, record { expecting = refl; waiting = f.waiting; answering = f.answering }) }
 
 pub returns-in_default : goal.returns-in_default
 returns-in_default c =

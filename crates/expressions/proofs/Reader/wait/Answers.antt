@@ -9,7 +9,7 @@ returns c =
     let long = length-map' (λ p. p.word) (items c.args.self.now.pending) in
     let more = pushed c.push.result _ _ c.push.ensures.cases (λ full. omega (arith, full.1, long, c.requires)) in
     record {
-      kept = record { pending_room = c.push.ensures.room; answers_room = refl; same-named = refl };
+      kept = record { pending_room = c.push.ensures.room; answers_room = refl; same_named = refl };
       pending = more;
       words = ap (map (λ p. p.word)) more;
       masks = refl;

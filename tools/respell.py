@@ -12,7 +12,7 @@ import sys
 
 WORD = re.compile(r"[\w'\-]+")
 KEEPS = set("length append map drop take set reverse head tail sum min max pow mul add sub div mod get insert push".split())
-# names that mean a mathematical letter, and names whose new spelling another name has already
+# names whose new spelling another name has already
 FIXED = {"or-else": "few_else"}
 
 
@@ -32,9 +32,6 @@ def read(path):
 def code(text, mark):
     """The text with comments blanked."""
     return re.sub(re.escape(mark) + r".*", lambda m: " " * len(m[0]), text)
-
-
-DECLARED = re.compile(r"^(\s*)((?:abbrev\s+|unfoldable\s+)?(?:pub\s+)?(?:record\s+|data\s+)?)([\w'\-]+)((?:\s+[\w'\-]+)*)\s*(?::|\()(?!=)", re.M)
 
 
 def declared(root):

@@ -8,13 +8,11 @@ ghost use Rattle.annuities.specs.Routed.{factored_by, summed_by, valued_by};
 use crate::cuts::yearly;
 use crate::discounts::{HIGHEST_RATE, UNIT, at, next};
 use crate::valuation::Valuation;
+use crate::values::YEARS;
 use benefits::benefit::Benefit;
 use cases::inforce::InForce;
 use refusals::Refusal;
 use routes::route::{Route, weigh};
-
-// The years that are summed: 0 to 120.
-const YEARS: u32 = 121;
 
 // The yearly factor of a year at a rate by a route, in hundred-millionths.
 pub fn yearly_factor_by(

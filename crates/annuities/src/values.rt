@@ -12,7 +12,7 @@ use refusals::Refusal;
 use weights::by_patterns::by_patterns;
 
 // The years that are summed: 0 to 120.
-const YEARS: u32 = 121;
+pub(crate) const YEARS: u32 = 121;
 
 // The yearly factor of a year at a rate, in hundred-millionths.
 pub fn yearly_factor(

@@ -40,15 +40,3 @@ shown_plain c h = ap (λ (xs : List Seat). running xs c.elapsed) (go c.supposed 
     go : (o : Option ℕ) (xs : List Seat) → is_some o ≡ false → as_supposed o xs ≡ xs
     go None xs h = refl
     go (Some i) xs h = absurd (false≢true (sym h))
-
--- a supposition leaves the counts
-counts_set : (xs : List Seat) (i k : ℕ) → (seat_at (set xs i (failed (seat_at xs i).counts)) k).counts ≡ (seat_at xs k).counts
-counts_set [] i k = refl
-counts_set (x ∷ xs) zero zero = refl
-counts_set (x ∷ xs) zero (suc k) = refl
-counts_set (x ∷ xs) (suc i) zero = refl
-counts_set (x ∷ xs) (suc i) (suc k) = counts_set xs i k
-
-pub supposed_counts : (o : Option ℕ) (xs : List Seat) (k : ℕ) → (seat_at (as_supposed o xs) k).counts ≡ (seat_at xs k).counts
-supposed_counts None xs k = refl
-supposed_counts (Some i) xs k = counts_set xs i k

@@ -13,53 +13,28 @@ ghost use Rattle.cases.specs.Weighing.{exposure_for, exposures_for, vacant_at, v
 ghost use Rattle.cases.specs.Routing.{judge_number, judge_routed, Answered};
 
 use super::InForce;
+use super::weigh::LOST;
 use benefits::benefit::Benefit;
 use patterns::SEATS;
 use refusals::Refusal;
 use routes::by_number::is_even;
 use routes::route::{Route, weigh};
-use seats::seat::Mark;
 use weights::exposure::Exposure;
 use weights::exposures::Exposures;
 use weights::weight::Weight;
 
-// The years of a life: every later year has count 0.
-const YEARS: u32 = 121;
-
 // The last year that a weight is asked for.
 const LAST_YEAR: u32 = 120;
 
-const LOST: Exposure = Exposure {
-    count: 0,
-    present: 1,
-};
-
 impl InForce {
-    // A seat's mark as supposed.
-    fn mark(&self, seat: usize) -> Mark
-        requires { Seated seat }
-        ensures { result ≡ (seat_at (as_supposed self.now.supposed self.now.table.seats) seat).mark }
-    {
-        match self.supposed {
-            Some(i) if i == seat => Mark::Failed,
-            _ => self.table.mark(seat),
-        }
-    }
-
     // A seat as supposed, as the weight for a year sees it.
     fn exposure_shown(&self, named: usize, seat: usize, year: u32) -> Exposure
         requires { Seated seat }
         ensures { result ≡ (if is_member named seat then exposure_for self.now.elapsed year (seat_at (as_supposed self.now.supposed self.now.table.seats) seat) else lost) }
     {
-        if (named >> seat) % 2 != 1 {
-            return LOST;
-        }
-        match self.mark(seat) {
-            Mark::Living => Exposure {
-                count: u64::from(self.table.count(seat, self.elapsed + year.min(YEARS))),
-                present: u64::from(self.table.count(seat, self.elapsed)),
-            },
-            Mark::Empty | Mark::Failed => LOST,
+        match self.supposed {
+            Some(i) if i == seat => LOST,
+            _ => self.exposure(named, seat, year),
         }
     }
 
@@ -80,12 +55,9 @@ impl InForce {
         requires { Seated seat }
         ensures { result ≡ vacant_at (shown_book self.now) named seat }
     {
-        if (named >> seat) % 2 != 1 {
-            return false;
-        }
-        match self.mark(seat) {
-            Mark::Empty => true,
-            Mark::Living | Mark::Failed => false,
+        match self.supposed {
+            Some(i) if i == seat => false,
+            _ => self.vacant(named, seat),
         }
     }
 

@@ -22,14 +22,14 @@ use weights::weight::Weight;
 // The years of a life: every later year has count 0.
 const YEARS: u32 = 121;
 
-const LOST: Exposure = Exposure {
+pub(super) const LOST: Exposure = Exposure {
     count: 0,
     present: 1,
 };
 
 impl InForce {
     // A seat as the weight for a year sees it.
-    fn exposure(&self, named: usize, seat: usize, year: u32) -> Exposure
+    pub(super) fn exposure(&self, named: usize, seat: usize, year: u32) -> Exposure
         requires { Seated seat }
         ensures { result ≡ (if is_member named seat then exposure_for self.now.elapsed year (seat_at self.now.table.seats seat) else lost) }
     {
@@ -58,7 +58,7 @@ impl InForce {
     }
 
     // Whether a seat is named and empty.
-    fn vacant(&self, named: usize, seat: usize) -> bool
+    pub(super) fn vacant(&self, named: usize, seat: usize) -> bool
         requires { Seated seat }
         ensures { result ≡ vacant_at (in_force_book self.now) named seat }
     {

@@ -1,4 +1,4 @@
 -- The definitions that the contracts cite.
 pub mod Discounts
 pub mod Values
-pub mod Routed
+pub mod Rates

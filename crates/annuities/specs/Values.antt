@@ -4,7 +4,9 @@ use Rattle.refusals.specs.declared.Refusal.{Refusal}
 use Rattle.patterns.specs.Patterns.{below}
 use Rattle.benefits.specs.declared.benefit.Benefit.{Benefit}
 use Rattle.cases.specs.Book.{Book, Answer}
-use Rattle.cases.specs.Weighing.{weight_of, full_of, judge_weighing}
+use Rattle.cases.specs.Weighing.{weight_of, full_of}
+use Rattle.cases.specs.Routing.{judge_routed}
+use Rattle.routes.specs.declared.route.Route.{Route}
 use Rattle.annuities.specs.declared.valuation.Valuation.{Valuation}
 use Rattle.annuities.specs.Discounts.{discount, rated}
 
@@ -38,17 +40,17 @@ abbrev pub accepted : {X : Type 0} → Answer → Result X Refusal → Result X 
 accepted (Ok u) r = r
 accepted (Err e) r = Err e
 
--- the answers of the calls: the rate is tested first, then what a weighing tests
-abbrev pub factored : Book → Benefit → ℕ → ℕ → Result ℕ Refusal
-factored b x i t = rated i (accepted (judge_weighing b x t) (Ok (yearly_of b x i t)))
+-- the answers of the calls, by any route: the rate is tested first, then what a weighing by that route tests
+abbrev pub factored : Book → Benefit → ℕ → ℕ → Route → Result ℕ Refusal
+factored b x i t route = rated i (accepted (judge_routed b x t route) (Ok (yearly_of b x i t)))
 
 -- the factor, which is refused as a weighing for year 0 is
-abbrev pub summed : Book → Benefit → ℕ → Result ℕ Refusal
-summed b x i = rated i (accepted (judge_weighing b x 0) (Ok (factor_of b x i)))
+abbrev pub summed : Book → Benefit → ℕ → Route → Result ℕ Refusal
+summed b x i route = rated i (accepted (judge_routed b x 0 route) (Ok (factor_of b x i)))
 
 -- the factor and the value, refused as the factor is
-abbrev pub valued : Book → Benefit → ℕ → Result Valuation Refusal
-valued b x i = rated i (accepted (judge_weighing b x 0) (Ok (record { factor = factor_of b x i; value = value_of b x i })))
+abbrev pub valued : Book → Benefit → ℕ → Route → Result Valuation Refusal
+valued b x i route = rated i (accepted (judge_routed b x 0 route) (Ok (record { factor = factor_of b x i; value = value_of b x i })))
 
 -- an answered yearly factor is so cut
 abbrev pub CutOf : Result ℕ Refusal → Book → Benefit → ℕ → ℕ → Type 0

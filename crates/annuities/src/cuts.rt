@@ -2,7 +2,7 @@
 ghost use Rattle.std.specs.Prelude.{◌≡◌, ◌+◌, ◌*◌, ◌^◌, ◌<◌, ◌≤◌};
 ghost use Rattle.annuities.specs.Values.{probability, yearly, Cut};
 
-use crate::discounts::UNIT;
+use crate::discounts::{DiscountFactor, UNIT};
 use weights::weight::Weight;
 
 // A weight that can be multiplied by the unit at once.
@@ -30,11 +30,10 @@ fn probability(weight: &Weight) -> u64
 }
 
 // The yearly factor of a weight under a discount.
-pub(crate) fn yearly(weight: &Weight, discount: u64) -> u64
-    requires { discount ≤ 10 ^ 8 }
-    ensures value { result ≡ yearly weight.now.weight weight.now.full discount }
+pub(crate) fn yearly(weight: &Weight, discount: DiscountFactor) -> u64
+    ensures value { result ≡ yearly weight.now.weight weight.now.full discount.worth }
     ensures bound { result ≤ 10 ^ 8 }
-    ensures cut { Cut weight.now.weight weight.now.full discount result }
+    ensures cut { Cut weight.now.weight weight.now.full discount.worth result }
 {
-    probability(weight) * discount / UNIT
+    probability(weight) * discount.worth / UNIT
 }

@@ -3,6 +3,6 @@
 
 mod cuts;
 pub mod discounts;
-pub mod routed;
+pub mod pricing;
+mod rates;
 pub mod valuation;
-pub mod values;

@@ -10,12 +10,11 @@ mod whatif;
 use answers::show_account;
 use benefits::benefit::Benefit;
 use calls::show_calls;
+use either::Either;
 use expressions::{Pending, Word};
-use histories::account::account;
-use histories::calls::{Enrolment, Event, Look};
+use histories::calls::{Enrolment, Event, History, Look};
 use lives::aged::Aged;
 use lives::demoivre::DeMoivre;
-use lives::either::Either;
 use lives::life::Life;
 use routes::route::Route;
 use std::io;
@@ -28,16 +27,13 @@ const RATE: u32 = 500;
 // The whole of a family: the calls, the account of year 1, and the sum over who survives this year.
 fn show_family<L: Life>(
     rt: &HostRuntime,
-    enrolments: &[Enrolment<L>],
-    events: &[Event],
-    supposed: Option<usize>,
+    history: &History<L>,
     benefit: &Benefit,
 ) -> io::Result<()> {
-    show_calls(rt, enrolments, events, supposed, benefit)?;
-    let account = account(enrolments, events, &[*benefit], supposed, benefit, 1, RATE);
-    show_account(rt, &account)?;
-    show_survivors(rt, enrolments, events, supposed, benefit)?;
-    show_what_if(rt, enrolments, events, supposed, benefit, RATE)
+    show_calls(rt, history)?;
+    show_account(rt, &history.account(benefit, 1, RATE))?;
+    show_survivors(rt, history, benefit)?;
+    show_what_if(rt, history, benefit, RATE)
 }
 
 // A life that falls by a step in each of some years.
@@ -53,26 +49,31 @@ fn show_couple(rt: &HostRuntime, benefit: &Benefit) -> io::Result<()> {
         "A couple: A falls by 25 in each of four years, B by 50 in each of three and has aged one"
     )?;
     let enrolments = [
-        Enrolment::Enrol(0, Either::One(falling(4, 25))),
-        Enrolment::Enrol(1, Either::Other(Aged::new(falling(3, 50), 1))),
+        Enrolment::Enrol(0, Either::Left(falling(4, 25))),
+        Enrolment::Enrol(1, Either::Right(Aged::new(falling(3, 50), 1))),
     ];
-    show_family(rt, &enrolments, &[], None, benefit)
+    let history = History {
+        enrolments: &enrolments,
+        events: &[],
+        supposed: None,
+    };
+    show_family(rt, &history, benefit)
 }
 
 // A family with refused calls, a failure, a year's end, a supposition that has ended and one that stands.
-fn show_larger(rt: &HostRuntime, benefit: &Benefit) -> io::Result<()> {
+fn show_larger(rt: &HostRuntime, benefit: Benefit) -> io::Result<()> {
     println!(rt; "A family of three, a year on: B has failed, and C is supposed failed")?;
     let enrolments = [
-        Enrolment::Enrol(0, Either::One(falling(4, 25))),
-        Enrolment::Enrol(0, Either::One(falling(9, 10))),
-        Enrolment::Enrol(1, Either::Other(Aged::new(falling(3, 50), 1))),
-        Enrolment::Enrol(2, Either::One(falling(10, 10))),
-        Enrolment::Enrol(3, Either::One(falling(0, 10))),
+        Enrolment::Enrol(0, Either::Left(falling(4, 25))),
+        Enrolment::Enrol(0, Either::Left(falling(9, 10))),
+        Enrolment::Enrol(1, Either::Right(Aged::new(falling(3, 50), 1))),
+        Enrolment::Enrol(2, Either::Left(falling(10, 10))),
+        Enrolment::Enrol(3, Either::Left(falling(0, 10))),
         Enrolment::Withdraw(3),
     ];
     let looks = [
-        Look::Weigh(0, 1, Route::Counts),
-        Look::Value(0, RATE, Route::Patterns),
+        Look::Weigh(&benefit, 1, Route::Counts),
+        Look::Value(&benefit, RATE, Route::Patterns),
     ];
     let events = [
         Event::Fail(3),
@@ -80,9 +81,14 @@ fn show_larger(rt: &HostRuntime, benefit: &Benefit) -> io::Result<()> {
         Event::Fail(1),
         Event::Fail(1),
         Event::YearEnd,
-        Event::Look(Look::Weigh(0, 121, Route::Subsets)),
+        Event::Look(Look::Weigh(&benefit, 121, Route::Subsets)),
     ];
-    show_family(rt, &enrolments, &events, Some(2), benefit)
+    let history = History {
+        enrolments: &enrolments,
+        events: &events,
+        supposed: Some(2),
+    };
+    show_family(rt, &history, &benefit)
 }
 
 fn main(rt: HostRuntime) -> io::Result<()> {
@@ -95,7 +101,7 @@ fn main(rt: HostRuntime) -> io::Result<()> {
         show_couple(&rt, &benefit)?;
     }
     if let Ok(benefit) = Benefit::read(100_000, b"20 last[ABC]", &mut pending, &mut answers) {
-        show_larger(&rt, &benefit)?;
+        show_larger(&rt, benefit)?;
     }
     Ok(())
 }

@@ -2,38 +2,27 @@
 use crate::answers::letter;
 use benefits::benefit::Benefit;
 use cases::inforce::InForce;
-use histories::calls::{Enrolment, Event};
-use histories::replay::{carry_all, enrolled};
+use histories::calls::History;
 use lives::life::Life;
+use patterns::sets::is_member;
 use patterns::{PATTERNS, SEATS};
 use routes::route::Route;
 use std::io;
 use weights::exposures::Exposures;
 
 // The case of a history, the supposed seat failed for good.
-pub fn replayed<L: Life>(
-    enrolments: &[Enrolment<L>],
-    events: &[Event],
-    supposed: Option<usize>,
-) -> InForce {
-    let mut case = enrolled(enrolments).start();
-    carry_all(&mut case, &[], events);
-    if let Some(seat) = supposed {
+pub fn replayed<L: Life>(history: &History<L>) -> InForce {
+    let mut case = history.replay();
+    if let Some(seat) = history.supposed {
         let _ = case.fail(seat);
     }
     case
 }
 
-// Whether a seat is in a set.
-fn is_member(set: usize, seat: usize) -> bool {
-    seat < SEATS && (set >> seat) % 2 == 1
-}
-
 // The deaths of the others this year, multiplied together; none where a member of the set cannot survive. A seat that is failed or empty has neither.
 fn others_deaths(exposures: &Exposures, set: usize) -> Option<u64> {
     let mut deaths = 1u64;
-    for seat in 0..SEATS {
-        let exposure = exposures.seats[seat];
+    for (seat, exposure) in exposures.seats.iter().enumerate() {
         if is_member(set, seat) {
             if exposure.count == 0 {
                 return None;
@@ -53,10 +42,8 @@ fn later_weight(mut case: InForce, benefit: &Benefit, set: usize) -> u64 {
         }
     }
     let _ = case.year_end();
-    match case.weigh(benefit, 0, Route::Patterns) {
-        Ok(weight) => weight.weight,
-        Err(_) => 0,
-    }
+    case.weigh(benefit, 0, Route::Patterns)
+        .map_or(0, |weight| weight.weight)
 }
 
 // The survivors' letters.
@@ -77,17 +64,15 @@ fn show_set(rt: &HostRuntime, set: usize) -> io::Result<()> {
 // What each set of survivors adds to the weight for year 1, and their sum.
 pub fn show_survivors<L: Life>(
     rt: &HostRuntime,
-    enrolments: &[Enrolment<L>],
-    events: &[Event],
-    supposed: Option<usize>,
+    history: &History<L>,
     benefit: &Benefit,
 ) -> io::Result<()> {
     println!(rt; "the weight for year 1, by who survives this year")?;
-    let exposures = replayed(enrolments, events, supposed).exposures_shown(benefit, 1);
+    let exposures = replayed(history).as_supposed().exposures(benefit, 1);
     let mut sum = 0u64;
     for set in 0..PATTERNS {
         if let Some(deaths) = others_deaths(&exposures, set) {
-            let weight = later_weight(replayed(enrolments, events, supposed), benefit, set);
+            let weight = later_weight(replayed(history), benefit, set);
             let part = deaths.saturating_mul(weight);
             sum = sum.saturating_add(part);
             show_set(rt, set)?;

@@ -2,7 +2,7 @@
 use crate::answers::letter;
 use crate::survivors::replayed;
 use benefits::benefit::Benefit;
-use histories::calls::{Enrolment, Event};
+use histories::calls::History;
 use histories::supposed::value_supposing;
 use lives::life::Life;
 use patterns::SEATS;
@@ -12,14 +12,12 @@ use std::io;
 // A supposition for each seat, one after another on the same case.
 pub fn show_what_if<L: Life>(
     rt: &HostRuntime,
-    enrolments: &[Enrolment<L>],
-    events: &[Event],
-    supposed: Option<usize>,
+    history: &History<L>,
     benefit: &Benefit,
     rate: u32,
 ) -> io::Result<()> {
     println!(rt; "the value if a seat failed now")?;
-    let mut case = replayed(enrolments, events, supposed);
+    let mut case = replayed(history);
     for seat in 0..SEATS {
         let letter = letter(seat);
         if let Err(refusal) = case.test_suppose(seat) {

@@ -3,11 +3,12 @@ use Rattle.std.proofs.Common.{◌≡◌, ℕ, ◌<◌, cond, List, [], ◌∷◌
 use lib.Bits.{bit_and, bit_or, and_comm, and_le_l, and_self, or_comm, or_lt}
 use Rattle.std.specs.List.{AllByRecursion}
 use Rattle.std.proofs.lemmas.List.Sums.{sum_by-cons}
+use Rattle.std.proofs.lemmas.Nat.{and_assoc}
 use Rattle.patterns.specs.Seats.{seats, patterns}
 use Rattle.expressions.specs.declared.Reading.{Reading}
 use Rattle.expressions.specs.Answers.{yes}
 use Rattle.expressions.proofs.Owning.{Own, answered_own}
-use Rattle.expressions.proofs.Sets.{Within, within_more, and_assoc}
+use Rattle.expressions.proofs.Sets.{Within, within_more}
 use Rattle.benefits.specs.declared.clauses.Clause.{Clause}
 use Rattle.benefits.specs.declared.sums.Sums.{Sums}
 use Rattle.benefits.specs.Clauses.{ClauseVerdict, share_of, expression_of, paid, total, named_by}
@@ -45,7 +46,7 @@ small_named n (c ∷ cs) h own = small_named (bit_or n c.reading.named) cs (or_l
 -- a reading answers in a pattern as in its part within n, where n has the named seats
 yes_own : (x : Reading) (q n : ℕ) → q < patterns → Own x → Within x.named n → yes x q ≡ yes x (bit_and q n)
 yes_own x q n lt own h =
-    let part : bit_and (bit_and q n) x.named ≡ bit_and q x.named = and_assoc q n x.named ∙ ap (bit_and q) (and_comm n x.named ∙ h) in
+    let part : bit_and (bit_and q n) x.named ≡ bit_and q x.named = and_assoc x.named q n ∙ ap (bit_and q) (and_comm n x.named ∙ h) in
     own.own q lt ∙ ap (yes x) (sym part) ∙ sym (own.own (bit_and q n) (omega (arith, and_le_l q n)))
 
 total_own : (cs : List Clause) (q n : ℕ) → q < patterns → AllByRecursion (λ c. Own c.reading) cs → AllByRecursion (λ c. Within c.reading.named n) cs → total cs q ≡ total cs (bit_and q n)

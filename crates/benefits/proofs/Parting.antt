@@ -1,50 +1,43 @@
 -- How a text is parted into clauses.
-use Rattle.std.proofs.Common.{◌≡◌, ℕ, ◌+◌, ◌-◌, ◌<◌, ◌≤◌, cond, eqb, List, [], ◌∷◌, length, get_or, take, drop, sym, refl, ap, ◌∙◌, arith}
-use Rattle.std.proofs.lemmas.List.{drop-drop, drop_more, length-drop}
-use Rattle.std.proofs.lemmas.Bool.{le-leb, lt-leb, eq-eqb, ne_eqb, cond_both}
+use Rattle.std.proofs.Common.{◌≡◌, ℕ, ◌+◌, ◌≤◌, Bool, true, false, eqb, List, [], ◌∷◌, ◌++◌, length, get_or, cond, refl, sym, ap, ◌∙◌, subst, arith, length-append, MatchBool}
+use Rattle.std.specs.List.{All, slice_split, onto_first, IsFirstMatchOrLen}
+use Rattle.std.proofs.lemmas.Grind.{common_steps}
+use Rattle.std.proofs.lemmas.List.Splits.{slice_split_at, slice_split_none}
 use Rattle.lines.specs.Pieces.{onto, pieces}
-use Rattle.benefits.specs.Clauses.{clauses_from}
 
-pub from_within : (text : List ℕ) (at : ℕ) → at ≤ length text → clauses_from text at ≡ pieces 59 (drop at text)
-from_within text at h = ap (λ b. cond b (pieces 59 (drop at text)) []) (le-leb at (length text) h)
+onto_is : (b : ℕ) (ps : List (List ℕ)) → onto b ps ≡ onto_first b ps
+onto_is b [] = refl
+onto_is b (p ∷ ps) = refl
 
-pub from_past : (text : List ℕ) (at : ℕ) → length text < at → clauses_from text at ≡ []
-from_past text at h = ap (λ b. cond b (pieces 59 (drop at text)) []) (lt-leb at (length text) h)
+-- the pieces are what the library's `split` gives
+pub pieces_split : (stop : ℕ) (bs : List ℕ) → pieces stop bs ≡ slice_split (λ b. eqb b stop) bs
+pieces_split stop [] = refl
+pieces_split stop (b ∷ bs) =
+    let e = pieces_split stop bs in
+    λ i. cond (eqb b stop) ([] ∷ e i) ((onto_is b (pieces stop bs) ∙ ap (onto_first b) e) i)
 
--- a clause that a stop ends
-pub parted_some : (text : List ℕ) (at i : ℕ) → at ≤ length text → i < length (drop at text) → pieces 59 (drop at text) ≡ take i (drop at text) ∷ pieces 59 (drop (i + 1) (drop at text)) → clauses_from text at ≡ take (at + i - at) (drop at text) ∷ clauses_from text (at + i + 1)
-parted_some text at i h lt e =
-    let same : i ≡ at + i - at = omega arith in
-    let next : at + (i + 1) ≡ at + i + 1 = omega arith in
-    let inside : at + i + 1 ≤ length text = omega (arith, length-drop at text) in
-    let later : pieces 59 (drop (i + 1) (drop at text)) ≡ clauses_from text (at + i + 1) = ap (pieces 59) (drop-drop (i + 1) at text) ∙ ap (λ k. pieces 59 (drop k text)) next ∙ sym (from_within text (at + i + 1) inside) in
-    from_within text at h ∙ e ∙ (λ j. take (same j) (drop at text) ∷ later j)
+-- the clauses that `split` has left
+abbrev pub left : List ℕ → Bool → List (List ℕ)
+left rest done = cond done [] (slice_split (λ b. eqb b 59) rest)
 
--- the last clause
-pub parted_none : (text : List ℕ) (at : ℕ) → at ≤ length text → take (length text - at) (drop at text) ≡ drop at text → pieces 59 (drop at text) ≡ drop at text ∷ [] → clauses_from text at ≡ take (length text - at) (drop at text) ∷ clauses_from text (length text + 1)
-parted_none text at h all e = from_within text at h ∙ e ∙ (λ j. sym all j ∷ sym (from_past text (length text + 1) (omega arith)) j)
+pub all_left : (text rest : List ℕ) (done : Bool) → rest ≡ text → done ≡ false → left rest done ≡ pieces 59 text
+all_left text rest done is more = (λ i. left (is i) (more i)) ∙ sym (pieces_split 59 text)
 
-length-onto : (c : ℕ) (ps : List (List ℕ)) → 0 < length ps → length (onto c ps) ≡ length ps
-length-onto c [] h = absurd (omega arith)
-length-onto c (p ∷ ps) h = refl
+-- the part xs is the clause x and then the rest, or the last clause
+abbrev pub Part : List ℕ → List ℕ → List ℕ → Bool → Type 0
+Part xs x rest done = MatchBool done (xs ≡ x) ((y : ℕ) × (xs ≡ x ++ (y ∷ rest)))
 
-some-onto : (c : ℕ) (ps : List (List ℕ)) → 0 < length (onto c ps)
-some-onto c [] = omega arith
-some-onto c (p ∷ ps) = omega arith
+pub next_left : (xs x rest : List ℕ) (was done : Bool) → was ≡ false → Part xs x rest done → IsFirstMatchOrLen (λ b. eqb b 59) xs (length x) → left xs was ≡ x ∷ left rest done
+next_left xs x rest was true more e h = ap (left xs) more ∙ ap (slice_split (λ b. eqb b 59)) e ∙ slice_split_none (λ b. eqb b 59) x (λ k d l. subst (λ ys. eqb (get_or ys k d) 59 ≡ false) e (h.0 k d (omega arith) l))
+next_left xs x rest was false more e h =
+    let front : All (λ z. eqb z 59 ≡ false) x = λ k d l. let a = h.0 k d (omega arith) l in let b = e.1 in grind (arith, common_steps) in
+    let hit : eqb e.0 59 ≡ true = let b = e.1 in let a = h.1 (grind (arith, common_steps)) e.0 in grind (arith, common_steps) in
+    ap (left xs) more ∙ ap (slice_split (λ b. eqb b 59)) e.1 ∙ slice_split_at (λ b. eqb b 59) x e.0 rest front hit
 
-pieces-some : (stop : ℕ) (bs : List ℕ) → 0 < length (pieces stop bs)
-pieces-some stop [] = omega arith
-pieces-some stop (c ∷ cs) = cond_both (eqb c stop) ([] ∷ pieces stop cs) (onto c (pieces stop cs)) (λ ps. 0 < length ps) (λ e. omega arith) (λ e. some-onto c (pieces stop cs))
+pub part_within : (xs x rest : List ℕ) (done : Bool) → Part xs x rest done → length x ≤ length xs
+part_within xs x rest true e = omega (arith, ap length e)
+part_within xs x rest false e = omega (arith, ap length e.1, length-append x (e.0 ∷ rest))
 
-at_stop : (stop c : ℕ) (cs : List ℕ) → c ≡ stop → length (pieces stop (c ∷ cs)) ≡ length (pieces stop cs) + 1
-at_stop stop c cs e = ap (λ b. length (cond b ([] ∷ pieces stop cs) (onto c (pieces stop cs)))) (eq-eqb c stop e) ∙ omega arith
-
-no_stop : (stop c : ℕ) (cs : List ℕ) → (c ≡ stop → ⊥) → length (pieces stop (c ∷ cs)) ≡ length (pieces stop cs)
-no_stop stop c cs e = ap (λ b. length (cond b ([] ∷ pieces stop cs) (onto c (pieces stop cs)))) (ne_eqb c stop e) ∙ length-onto c (pieces stop cs) (pieces-some stop cs)
-
--- one byte more is counted
-pub count_stop : (text : List ℕ) (i : ℕ) → i < length text → get_or text i 0 ≡ 59 → length (pieces 59 (drop i text)) ≡ length (pieces 59 (drop (i + 1) text)) + 1
-count_stop text i h e = ap (λ l. length (pieces 59 l)) (drop_more text i 0 h) ∙ at_stop 59 (get_or text i 0) (drop (i + 1) text) e
-
-pub count_other : (text : List ℕ) (i : ℕ) → i < length text → (get_or text i 0 ≡ 59 → ⊥) → length (pieces 59 (drop i text)) ≡ length (pieces 59 (drop (i + 1) text))
-count_other text i h e = ap (λ l. length (pieces 59 l)) (drop_more text i 0 h) ∙ no_stop 59 (get_or text i 0) (drop (i + 1) text) e
+pub part_long : (xs x rest : List ℕ) (done : Bool) → Part xs x rest done → done ≡ false → length x + 1 + length rest ≡ length xs
+part_long xs x rest true e more = grind arith
+part_long xs x rest false e more = omega (arith, ap length e.1, length-append x (e.0 ∷ rest))

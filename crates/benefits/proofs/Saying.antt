@@ -1,21 +1,20 @@
 -- Clauses one after another, and what they pay together.
-use Rattle.std.proofs.Common.{◌≡◌, ℕ, zero, suc, ◌+◌, ◌*◌, ◌<◌, ◌≤◌, ◌&&◌, leb, List, [], ◌∷◌, ◌++◌, length, get_or, replicate, Some, None, Ok, Err, Option, Result, sym, refl, ap, ◌∙◌, subst, ⊎_elim, append_assoc, arith, length-append}
+use Rattle.std.proofs.Common.{◌≡◌, ℕ, zero, suc, ◌+◌, ◌*◌, ◌<◌, ◌≤◌, ◌&&◌, leb, List, [], ◌∷◌, ◌++◌, length, get_or, replicate, Some, None, Ok, Err, Option, Result, sym, refl, ap, ◌∙◌, subst, ⊎_elim, append_assoc, append-nil, arith, length-append}
 use lib.Bits.{bit_or}
 use Rattle.std.proofs.lemmas.List.{get_or_past}
 use Rattle.std.proofs.lemmas.List.Sums.{fold_push, sum_by_push, sum_by-cons}
 use Rattle.std.proofs.lemmas.Bool.{cases_lt, cond_both, and_parts, leb-true}
 use Rattle.patterns.specs.Seats.{patterns}
 use Rattle.expressions.specs.Answers.{yes}
-use Rattle.lines.specs.Pieces.{pieces}
 use Rattle.writing.specs.Numbers.{numbered, well_written, read_on}
 use Rattle.tokens.specs.declared.classes.Class.TheVariants.{Digit}
 use Rattle.tokens.specs.Classes.{run_at}
 use Rattle.tokens.specs.declared.faults.Numbered.{Numbered}
 use Rattle.benefits.specs.declared.clauses.Clause.{Clause}
 use Rattle.benefits.specs.declared.faults.PartFault.{PartFault}
-use Rattle.benefits.specs.Clauses.{ClauseVerdict, clauses_from, share_at, share_in, share_of, positive, paid, total, named_by}
-use Rattle.benefits.specs.Reads.{Say, reach}
-use Rattle.benefits.proofs.Parting.{from_within}
+use Rattle.benefits.specs.Clauses.{ClauseVerdict, share_at, share_in, share_of, positive, paid, total, named_by}
+use Rattle.benefits.specs.Carried.{in_clause}
+use Rattle.benefits.specs.Reads.{Say, reach, Added, Faulty}
 
 say_push : (ts : List (List ℕ)) (cs : List Clause) (t : List ℕ) (c : Clause) (p a : ℕ) → Say ts cs p a → ClauseVerdict (share_of t) (Ok c) 0 t p a → Say (ts ++ t ∷ []) (cs ++ c ∷ []) p a
 say_push [] [] t c p a h k = (k, tt)
@@ -59,11 +58,11 @@ total-most (t ∷ ts) [] p a q h = absurd h
 total-most (t ∷ ts) (c ∷ cs) p a q h =
     omega (arith, sum_by-cons (λ d. paid d q) c cs, total-most ts cs p a q h.1, paid-most c q, verdict_most (share_of t) c t p a (share-most (run_at t (share_at t) Digit)) h.0)
 
--- how far the clauses have been read
-pub record Sofar (text : List ℕ) (at number named : ℕ) (twentieths : List ℕ) (p a : ℕ) : Type 0 where
+-- how far the clauses have been read, and which are left
+pub record Sofar (texts later : List (List ℕ)) (at number named : ℕ) (twentieths : List ℕ) (p a : ℕ) : Type 0 where
   pub before : List (List ℕ)
   pub clauses : List Clause
-  pub parts : pieces 59 text ≡ before ++ clauses_from text at
+  pub parts : texts ≡ before ++ later
   pub said : Say before clauses p a
   pub numbered : number ≡ length before + 1
   pub reached : at ≡ reach before
@@ -71,34 +70,57 @@ pub record Sofar (text : List ℕ) (at number named : ℕ) (twentieths : List �
   pub long : length twentieths ≡ patterns
   pub pays : (q : ℕ) → q < patterns → get_or twentieths q 0 ≡ total clauses q
 
-module _ {text : List ℕ} {at number named : ℕ} {twentieths : List ℕ} {p a : ℕ} where
-  pub few_paid : Sofar text at number named twentieths p a → length (pieces 59 text) ≤ 8 → (q : ℕ) → get_or twentieths q 0 ≤ 160
+module _ {texts later : List (List ℕ)} {at number named : ℕ} {twentieths : List ℕ} {p a : ℕ} where
+  pub few_paid : Sofar texts later at number named twentieths p a → length texts ≤ 8 → (q : ℕ) → get_or twentieths q 0 ≤ 160
   few_paid s few q =
-      let fewer : length s.before ≤ 8 = omega (arith, ap length s.parts, length-append s.before (clauses_from text at)) in
+      let fewer : length s.before ≤ 8 = omega (arith, ap length s.parts, length-append s.before later) in
       ⊎_elim (λ (h : q < patterns). omega (arith, s.pays q h, total-most s.before s.clauses p a q s.said)) (λ (h : patterns ≤ q). omega (arith, get_or_past twentieths q 0 (omega (arith, s.long)))) (cases_lt q patterns)
 
-  pub one_more : (s : Sofar text at number named twentieths p a) (t : List ℕ) (c : Clause) (at' : ℕ) (named' : ℕ) (twentieths' : List ℕ)
-      → clauses_from text at ≡ t ∷ clauses_from text at' → at' ≡ at + length t + 1 → ClauseVerdict (share_of t) (Ok c) at t p a
+  pub one_more : (s : Sofar texts later at number named twentieths p a) (t : List ℕ) (ts : List (List ℕ)) (c : Clause) (at' number' named' : ℕ) (twentieths' : List ℕ)
+      → later ≡ t ∷ ts → at' ≡ at + length t + 1 → number' ≡ number + 1 → ClauseVerdict (share_of t) (Ok c) at t p a
       → named' ≡ bit_or named c.reading.named → length twentieths' ≡ patterns → ((q : ℕ) → q < patterns → get_or twentieths' q 0 ≡ get_or twentieths q 0 + paid c q)
-      → Sofar text at' (number + 1) named' twentieths' p a
-  one_more s t c at' named' twentieths' parted next verdict names long pays = record {
+      → Sofar texts ts at' number' named' twentieths' p a
+  one_more s t ts c at' number' named' twentieths' parted next count verdict names long pays = record {
     before = s.before ++ t ∷ [];
     clauses = s.clauses ++ c ∷ [];
-    parts = s.parts ∙ ap (λ l. s.before ++ l) parted ∙ sym (append_assoc s.before (t ∷ []) (clauses_from text at'));
+    parts = s.parts ∙ ap (λ l. s.before ++ l) parted ∙ sym (append_assoc s.before (t ∷ []) ts);
     said = say_push s.before s.clauses t c p a s.said (anywhere (share_of t) c at t p a verdict);
-    numbered = omega (arith, s.numbered, length-append s.before (t ∷ []));
+    numbered = omega (arith, count, s.numbered, length-append s.before (t ∷ []));
     reached = omega (arith, s.reached, reach-push s.before t);
     names = names ∙ ap (λ n. bit_or n c.reading.named) s.names ∙ sym (fold_push (λ n d. bit_or n d.reading.named) 0 s.clauses c);
     long = long;
     pays = λ q h. omega (arith, pays q h, s.pays q h, sum_by_push (λ d. paid d q) s.clauses c);
   }
 
+  -- no clause is left
+  pub all_read : Sofar texts later at number named twentieths p a → later ≡ [] → Added (record { named = named; twentieths = twentieths }) texts p a
+  all_read s none = record {
+    clauses = s.clauses;
+    said = subst (λ ts. Say ts s.clauses p a) (sym (s.parts ∙ ap (λ l. s.before ++ l) none ∙ append-nil s.before)) s.said;
+    names = s.names;
+    long = s.long;
+    pays = s.pays;
+  }
+
+  -- the next clause cannot be read
+  pub no_more : Sofar texts later at number named twentieths p a → (t : List ℕ) (ts : List (List ℕ)) (f : PartFault) → later ≡ t ∷ ts → ClauseVerdict (share_of t) (Err f) at t p a → Faulty (in_clause number f) texts p a
+  no_more s t ts f parted verdict = record {
+    before = s.before;
+    clauses = s.clauses;
+    text = t;
+    later = ts;
+    parts = s.parts ∙ ap (λ l. s.before ++ l) parted;
+    said = s.said;
+    numbered = s.numbered;
+    wrong = subst (λ k. ClauseVerdict (share_of t) (Err f) k t p a) s.reached verdict;
+  }
+
 -- nothing is read yet
-pub none_read : (text : List ℕ) (p a : ℕ) → Sofar text 0 1 0 (replicate patterns 0) p a
-none_read text p a = record {
+pub none_read : (texts : List (List ℕ)) (p a : ℕ) → Sofar texts texts 0 1 0 (replicate patterns 0) p a
+none_read texts p a = record {
   before = [];
   clauses = [];
-  parts = sym (from_within text 0 (omega arith));
+  parts = refl;
   said = tt;
   numbered = refl;
   reached = refl;

@@ -1,18 +1,14 @@
 -- The parts of a clause, and what its expression's fault is.
-use Rattle.std.proofs.Common.{◌≡◌, ℕ, ◌+◌, ◌-◌, ◌≤◌, Bool, leb, List, length, take, drop, Some, None, Ok, Err, MatchBool, Option, Result, sym, refl, ap, ◌∙◌, subst, arith}
+use Rattle.std.proofs.Common.{◌≡◌, ℕ, ◌+◌, ◌-◌, ◌≤◌, List, length, take, drop, Some, None, Ok, Err, Option, sym, refl, ap, ◌∙◌, subst, arith}
 use Rattle.std.proofs.lemmas.Slice.{between_to_end}
-use Rattle.std.proofs.lemmas.Bool.{le-leb, and_from}
 use Rattle.tokens.specs.declared.classes.Class.TheVariants.{Digit}
-use Rattle.tokens.specs.declared.Token.{Token}
 use Rattle.tokens.specs.declared.faults.TokenFault.{TokenFault}
 use Rattle.tokens.specs.Classes.{end_at, run_at}
 use Rattle.expressions.specs.declared.Reading.{Reading}
-use Rattle.expressions.specs.declared.reads.ReadFault.{ReadFault}
-use Rattle.expressions.specs.declared.reads.ReadFault.TheVariants as fault
-use Rattle.expressions.specs.Cuts.{cut_all}
-use Rattle.expressions.specs.Verdict.{Answered, OfCut}
+use Rattle.expressions.specs.Verdict.{Said}
+use Rattle.expressions.proofs.Answering.{answered}
 use Rattle.benefits.specs.declared.faults.PartFault.{PartFault}
-use Rattle.benefits.specs.Carried.{carried, in_part}
+use Rattle.benefits.specs.Carried.{in_part}
 use Rattle.benefits.specs.Clauses.{share_at, share_end, share_in, share_of, no_share, expression_of, ClauseVerdict}
 
 -- the digits of the share
@@ -28,17 +24,6 @@ share_end_is text from end f e = e ∙ ap (λ k. end_at text k Digit) f
 pub expression_rest : (text : List ℕ) (end : ℕ) → end ≡ share_end text → take (length text - end) (drop end text) ≡ expression_of text
 expression_rest text end e = between_to_end text end (length text) (omega arith) ∙ ap (λ k. drop k text) e
 
-never_short : (c : Result (List Token) TokenFault) (end : ℕ) → OfCut c (Err fault.Short) end → ⊥
-never_short (Ok ts) end h = h
-never_short (Err e) end h = let z : ◌≡◌ {A = ℕ} 0 1 = cc in omega arith
-
--- where the lists are long enough, only a token is at fault
-pub token-only : (e : ReadFault) (text : List ℕ) (p a : ℕ) → 64 ≤ p → 64 ≤ a → Answered (Err e) text p a → Answered (Err (fault.Token (carried e))) text p a
-token-only (fault.Token e) text p a hp ha h = h
-token-only fault.Short text p a hp ha h =
-    let W : Bool → Type 0 = λ b. MatchBool b (OfCut (cut_all text) (Err fault.Short) (length text)) (◌≡◌ {A = Result Reading ReadFault} (Err fault.Short) (Err fault.Short)) in
-    absurd (never_short (cut_all text) (length text) (subst W (and_from (leb 64 p) (leb 64 a) (le-leb 64 p hp) (le-leb 64 a ha)) h))
-
 module _ (text : List ℕ) (from end at p a : ℕ) (begins : from ≡ share_at text) (ends : end ≡ end_at text from Digit) where
   share_known : (o : Option ℕ) → o ≡ share_in (take (end - from) (drop from text)) → o ≡ share_of text
   share_known o e = e ∙ ap share_in (share_field text from end begins ends)
@@ -46,12 +31,12 @@ module _ (text : List ℕ) (from end at p a : ℕ) (begins : from ≡ share_at t
   rest_known : take (length text - end) (drop end text) ≡ expression_of text
   rest_known = expression_rest text end (share_end_is text from end begins ends)
 
-  pub clause_ok : (n : ℕ) (x : Reading) → Some n ≡ share_in (take (end - from) (drop from text)) → Answered (Ok x) (take (length text - end) (drop end text)) p a → ClauseVerdict (share_of text) (Ok (record { share = n; reading = x })) at text p a
-  clause_ok n x e h = subst (λ o. ClauseVerdict o (Ok (record { share = n; reading = x })) at text p a) (share_known (Some n) e) (refl, subst (λ t. Answered (Ok x) t p a) rest_known h)
+  pub clause_ok : (n : ℕ) (x : Reading) → Some n ≡ share_in (take (end - from) (drop from text)) → 64 ≤ p → 64 ≤ a → Said (Ok x) (take (length text - end) (drop end text)) → ClauseVerdict (share_of text) (Ok (record { share = n; reading = x })) at text p a
+  clause_ok n x e hp ha h = subst (λ o. ClauseVerdict o (Ok (record { share = n; reading = x })) at text p a) (share_known (Some n) e) (refl, answered (Ok x) (expression_of text) p a hp ha (subst (Said (Ok x)) rest_known h))
 
-  pub clause_err : (n : ℕ) (e : ReadFault) (f : PartFault) → 64 ≤ p → 64 ≤ a → f ≡ in_part (at + end) e → Some n ≡ share_in (take (end - from) (drop from text)) → Answered (Err e) (take (length text - end) (drop end text)) p a → ClauseVerdict (share_of text) (Err f) at text p a
-  clause_err n e f hp ha is known h =
-      let told = token-only e (expression_of text) p a hp ha (subst (λ t. Answered (Err e) t p a) rest_known h) in
+  pub clause_err : (n : ℕ) (e : TokenFault) (f : PartFault) → f ≡ in_part (at + end) e → Some n ≡ share_in (take (end - from) (drop from text)) → 64 ≤ p → 64 ≤ a → Said (Err e) (take (length text - end) (drop end text)) → ClauseVerdict (share_of text) (Err f) at text p a
+  clause_err n e f is known hp ha h =
+      let told = answered (Err e) (expression_of text) p a hp ha (subst (Said (Err e)) rest_known h) in
       let here = subst (λ o. ClauseVerdict o (Err (in_part (at + end) e)) at text p a) (share_known (Some n) known) (ap (λ k. at + k) (share_end_is text from end begins ends), told) in
       subst (λ g. ClauseVerdict (share_of text) (Err g) at text p a) (sym is) here
 

@@ -1,5 +1,5 @@
 -- The clauses of a benefit: what each says, and what they pay together.
-use Rattle.std.specs.Prelude.{◌≡◌, ℕ, ◌+◌, cond, List, [], length, drop, Some, None, Ok, Err, fold, sum_by, Option, Result, ◌==◌, bit_or, nat_le}
+use Rattle.std.specs.Prelude.{◌≡◌, ℕ, ◌+◌, cond, List, drop, Some, None, Ok, Err, fold, sum_by, Option, Result, ◌==◌, bit_or}
 use Rattle.refusals.specs.declared.Refusal.TheVariants.{Number}
 use Rattle.tokens.specs.declared.classes.Class.TheVariants.{Space, Digit}
 use Rattle.tokens.specs.Classes.{end_at, run_at}
@@ -62,7 +62,3 @@ total cs p = sum_by (λ c. paid c p) cs
 -- the seats that clauses name
 abbrev pub named_by : List Clause → ℕ
 named_by cs = fold (λ n c. bit_or n c.reading.named) 0 cs
-
--- the clauses that begin at the place `at` or later; past the end of the text there is none
-abbrev pub clauses_from : List ℕ → ℕ → List (List ℕ)
-clauses_from text at = cond (nat_le at (length text)) (clauses_of (drop at text)) []

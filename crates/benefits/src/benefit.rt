@@ -2,7 +2,9 @@
 ghost use Rattle.std.specs.Prelude.{◌≡◌, ℕ, ◌<◌, ◌≤◌, bit_and, slice_index};
 ghost use Rattle.patterns.specs.Seats.{patterns};
 
-use patterns::{PATTERNS, Shares};
+use patterns::Shares;
+
+mod reads;
 
 #[derive(Clone, Copy)]
 pub struct Benefit {
@@ -34,23 +36,5 @@ impl Benefit {
         ensures { result.now ≡ self.now.shares }
     {
         &self.shares
-    }
-
-    // A benefit whose parts were checked.
-    pub(crate) fn of(amount: u32, named: usize, twentieths: [u64; PATTERNS]) -> Benefit
-        requires priced { (1 ≤ amount) × (amount ≤ 500000000) }
-        requires seats { named < patterns }
-        requires most { (p : ℕ) → slice_index twentieths p ≤ 20 }
-        requires own { (p : ℕ) → p < patterns → slice_index twentieths p ≡ slice_index twentieths (bit_and p named) }
-        ensures amount { result.amount ≡ amount }
-        ensures named { result.named ≡ named }
-        ensures shares { result.shares.twentieths ≡ twentieths }
-    {
-        let shares = Shares { twentieths };
-        Benefit {
-            amount,
-            named,
-            shares,
-        }
     }
 }

@@ -1,10 +1,12 @@
 // One clause: its share and what its expression says.
-ghost use Rattle.std.specs.Prelude.{◌≡◌, ◌+◌, ◌-◌, ◌^◌, ◌<◌, ◌≤◌, ◌∷◌, length, take, drop};
-ghost use Rattle.benefits.specs.Clauses.{share_in, share_of, no_share, ClauseVerdict, clauses_from, clauses_of};
+ghost use Rattle.std.specs.Prelude.{◌≡◌, ◌+◌, ◌^◌, ◌<◌, ◌≤◌, length};
+ghost use Rattle.expressions.specs.Verdict.{pending_room, answers_room};
+ghost use Rattle.benefits.specs.Clauses.{share_in, share_of, no_share, paid, ClauseVerdict};
 
+use crate::FULL;
 use crate::faults::PartFault;
-use expressions::{Pending, Reading, read};
-use lines::pieces::find;
+use expressions::Reading;
+use expressions::lists::Lists;
 use refusals::Refusal;
 use tokens::classes::{Class, run_end};
 use tokens::faults::{TokenFault, with_number};
@@ -21,10 +23,7 @@ pub(crate) struct Clause {
 fn share(field: &[u8]) -> Option<u32>
     ensures { result ≡ share_in field.now }
 {
-    match number(field, 20) {
-        Some(n) => { if n == 0 { None } else { Some(n) } }
-        None => None,
-    }
+    number(field, FULL).filter(|n| *n > 0)
 }
 
 // The fault of a share that is missing, ill-written or beyond its limit.
@@ -38,50 +37,30 @@ fn no_share(start: usize) -> PartFault
     PartFault { start, fault }
 }
 
-// Reads a clause that begins at the place `at` of the clauses' text.
-pub(crate) fn read_clause(
-    text: &[u8],
-    at: usize,
-    pending: &mut [Pending],
-    answers: &mut [u16],
-) -> Result<Clause, PartFault>
-    requires fits { at + length text.now < 2 ^ 64 }
-    requires pending { 64 ≤ length pending.old }
-    requires answers { 64 ≤ length answers.old }
-    ensures { ClauseVerdict (share_of text.now) result at text.now (length pending.old) (length answers.old) }
-{
-    let from = run_end(text, 0, Class::Space);
-    let end = run_end(text, from, Class::Digit);
-    let share = match share(&text[from..end]) {
-        Some(share) => share,
-        None => return Err(no_share(at + from)),
-    };
-    let reading = with_number(read(&text[end..], pending, answers), at + end)?;
-    Ok(Clause { share, reading })
-}
-
-// Where the clause ends that begins at the place `at`.
-pub(crate) fn clause_end(text: &[u8], at: usize) -> usize
-    requires { at ≤ length text.now }
-    ensures from { at ≤ result }
-    ensures within { result ≤ length text.now }
-    ensures clause { clauses_from text.now at ≡ take (result - at) (drop at text.now) ∷ clauses_from text.now (result + 1) }
-{
-    match find(&text[at..], b';') {
-        Some(i) => at + i,
-        None => text.len(),
+impl Clause {
+    // Reads a clause that begins at the place `at` of the clauses' text.
+    pub(crate) fn read(text: &[u8], at: usize, lists: &mut Lists<'_>) -> Result<Clause, PartFault>
+        requires { at + length text.now < 2 ^ 64 }
+        ensures pending { pending_room lists.new ≡ pending_room lists.old }
+        ensures answers { answers_room lists.new ≡ answers_room lists.old }
+        ensures verdict { ClauseVerdict (share_of text.now) result at text.now (pending_room lists.old) (answers_room lists.old) }
+    {
+        let from = run_end(text, 0, Class::Space);
+        let end = run_end(text, from, Class::Digit);
+        let share = share(&text[from..end]).ok_or(no_share(at + from))?;
+        let reading = with_number(lists.read(&text[end..]), at + end)?;
+        Ok(Clause { share, reading })
     }
-}
 
-// How many clauses there are.
-pub(crate) fn count_clauses(text: &[u8]) -> usize
-    ensures { result ≡ length (clauses_of text.now) }
-{
-    let mut n = 1;
-    for b in text {
-        if *b == b';' {
-            n += 1;
+    // What the clause pays in a pattern.
+    pub(crate) fn pays(self, pattern: usize) -> u64
+        ensures paid { result ≡ paid self pattern }
+        ensures most { result ≤ self.share }
+    {
+        if self.reading.holds(pattern) {
+            u64::from(self.share)
+        } else {
+            0
         }
     }
-    n
 }

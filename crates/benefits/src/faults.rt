@@ -1,8 +1,7 @@
 // The fault of a token, carried whole into the fault of its clause and of its benefit.
 ghost use Rattle.std.specs.Prelude.{◌≡◌};
-ghost use Rattle.benefits.specs.Carried.{carried, in_part, in_clause, in_benefit};
+ghost use Rattle.benefits.specs.Carried.{in_part, in_clause, in_benefit};
 
-use expressions::ReadFault;
 use refusals::Refusal;
 use tokens::faults::{Numbered, TokenFault};
 
@@ -28,27 +27,14 @@ pub enum BenefitFault {
     Clause(ClauseFault),
 }
 
-// The token's fault for which an expression cannot be read.
-fn token_fault(e: ReadFault) -> TokenFault
-    ensures { result ≡ carried e }
-{
-    match e {
-        ReadFault::Token(fault) => fault,
-        ReadFault::Short => TokenFault {
-            refusal: Refusal::Memory,
-            place: 0,
-        },
-    }
-}
-
 // The number is the place at which the text begins.
-impl From<Numbered<ReadFault>> for PartFault {
+impl From<Numbered<TokenFault>> for PartFault {
     ghost from_gives = { λ n p. p ≡ in_part n.number n.fault };
 
-    fn from(n: Numbered<ReadFault>) -> PartFault {
+    fn from(n: Numbered<TokenFault>) -> PartFault {
         PartFault {
             start: n.number,
-            fault: token_fault(n.fault),
+            fault: n.fault,
         }
     }
 }

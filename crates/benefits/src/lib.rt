@@ -4,5 +4,7 @@
 pub mod benefit;
 mod clauses;
 pub mod faults;
-mod reads;
 mod sums;
+
+// The full share, in twentieths.
+const FULL: u32 = 20;

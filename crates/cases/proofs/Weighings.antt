@@ -1,6 +1,6 @@
 -- The exposures that a weight takes from sound seats, and the weight that they give.
-use Rattle.std.proofs.Common.{◌≡◌, ℕ, zero, suc, ◌+◌, ◌-◌, ◌*◌, ◌^◌, ◌<◌, ◌≤◌, min, Bool, true, false, cond, List, [], ◌∷◌, map, length, get_or, sym, refl, ap, ◌∙◌, subst, ap₂, ⊎_elim, le_trans, le_of_eq, add-zero, add-suc, mul-le-mul, mul-le-mul_left, add-one, arith, ext_get_or}
-use Rattle.std.proofs.lemmas.List.{get_or_past}
+use Rattle.std.proofs.Common.{◌≡◌, ℕ, zero, suc, ◌+◌, ◌-◌, ◌*◌, ◌^◌, ◌<◌, ◌≤◌, Bool, true, false, cond, List, [], ◌∷◌, map, length, get_or, set, ◌≢◌, below_more, sym, refl, ap, ◌∙◌, subst, ap₂, ⊎_elim, le_trans, le_of_eq, add-zero, add-suc, mul-le-mul, mul-le-mul_left, add-one, arith, ext_get_or}
+use Rattle.std.proofs.lemmas.List.{get_or_past, get_or-set_same, get_or-set_other}
 use Rattle.std.proofs.lemmas.Bool.{cases_lt}
 use Rattle.patterns.specs.Seats.{seats as number_of_seats}
 use Rattle.patterns.specs.Patterns.{Pattern, flags, number}
@@ -32,6 +32,10 @@ pub map_at : {X Y : Type 0} (f : X → Y) (xs : List X) (i : ℕ) (d : X) (e : Y
 map_at f [] i d e h = absurd (omega arith)
 map_at f (x ∷ xs) zero d e h = refl
 map_at f (x ∷ xs) (suc i) d e h = map_at f xs i d e (omega arith)
+
+-- one place more is written as it should be
+pub written : {X : Type 0} (xs : List X) (i : ℕ) (v d : X) (F : ℕ → X) → i < length xs → v ≡ F i → ((k : ℕ) → k < i → get_or xs k d ≡ F k) → (k : ℕ) → k < i + 1 → get_or (set xs i v) k d ≡ F k
+written xs i v d F h e before = below_more _ _ (λ k q. let ne : k ≢ i = omega arith in get_or-set_other xs i k v d ne ∙ before k q) (get_or-set_same xs i v d h ∙ e)
 
 -- ---- counts never rise
 pub falls : (xs : List ℕ) (s t : ℕ) → ((u : ℕ) → get_or xs (u + 1) 0 ≤ get_or xs u 0) → get_or xs (s + t) 0 ≤ get_or xs s 0
@@ -132,13 +136,6 @@ module _ (b : Book) (columns : Columns b.seats) (x : Benefit) (t : ℕ) where
   pub full_is : 20 * D (kept (flags number_of_seats x.named) (exposures_for b t)) ≡ full_of b x
   unfolding full_of
   full_is = ap (λ (d : ℕ). 20 * d) present_is
-
--- ---- a year past the last has no count
-pub late_count : (xs : List ℕ) (s t : ℕ) → length xs ≡ 121 → get_or xs (s + min t 121) 0 ≡ get_or xs (s + t) 0
-late_count xs s t e =
-    ⊎_elim (λ (h : t < 121). ap (λ (n : ℕ). get_or xs (s + n) 0) (omega arith))
-    (λ (h : 121 ≤ t). get_or_past xs (s + min t 121) 0 (omega arith) ∙ sym (get_or_past xs (s + t) 0 (omega arith)))
-    (cases_lt t 121)
 
 -- ---- once no named seat is counted, nothing changes
 -- a count that is 0 stays 0

@@ -66,9 +66,9 @@ judge_mark Failed = Err AlreadyFailed
 abbrev pub judge_fail : List Seat → ℕ → Answer
 judge_fail xs i = cond (nat_le number_of_seats i) (Err NoSeat) (judge_mark (seat_at xs i).mark)
 
--- why a seat may not be supposed failed: no such seat, empty, or failed already
+-- why a seat may not be supposed failed: as it may not fail
 abbrev pub judge_suppose : List Seat → ℕ → Answer
-judge_suppose xs i = cond (nat_le number_of_seats i) (Err NoSeat) (judge_mark (seat_at xs i).mark)
+judge_suppose = judge_fail
 
 -- why a year may not end: a living seat's count of the next year is 0
 abbrev pub judge_year_end : List Seat → ℕ → Answer
@@ -122,3 +122,8 @@ supposing xs i = supposing_by (judge_suppose xs i) i
 abbrev pub as_supposed : Option ℕ → List Seat → List Seat
 as_supposed None xs = xs
 as_supposed (Some i) xs = slice_set xs i (failed (seat_at xs i).counts)
+
+-- the mark of the seat i while a supposition stands: failed if it is the supposed one
+abbrev pub seen_mark : Option ℕ → ℕ → Mark → Mark
+seen_mark None i m = m
+seen_mark (Some j) i m = cond (j == i) Failed m

@@ -1,21 +1,18 @@
 -- What the book of a case gives for the weight of a benefit in a year.
-use Rattle.std.specs.Prelude.{◌≡◌, ℕ, ◌+◌, ◌*◌, Bool, false, cond, List, map, Ok, Err, Result, nat_lt, slice_index}
-use Rattle.refusals.specs.declared.Refusal.{Refusal}
-use Rattle.refusals.specs.declared.Refusal.TheVariants.{Vacant, Year}
+use Rattle.std.specs.Prelude.{ℕ, ◌+◌, ◌*◌, Bool, false, cond, List, map, slice_index}
 use Rattle.patterns.specs.Seats.{seats as number_of_seats}
 use Rattle.patterns.specs.Patterns.{flags}
 use Rattle.patterns.specs.Anys.{any_to, is_member}
 use Rattle.benefits.specs.declared.benefit.Benefit.{Benefit}
 use Rattle.benefits.specs.Shares.{share}
 use Rattle.weights.specs.declared.exposure.Exposure.{Exposure}
-use Rattle.weights.specs.declared.weight.Weight.{Weight}
 use Rattle.weights.specs.Exposures.{lost}
 use Rattle.weights.specs.Weights.{weight, product_named}
 use Rattle.seats.specs.declared.seat.Mark.{Mark}
 use Rattle.seats.specs.declared.seat.Mark.TheVariants.{Empty, Living, Failed}
 use Rattle.seats.specs.declared.seat.Seat.{Seat}
 use Rattle.seats.specs.Seats.{seat_at, present, is_empty}
-use Rattle.cases.specs.Book.{Book, Answer}
+use Rattle.cases.specs.Book.{Book}
 
 -- A living seat's count for year t from now is that of year s + t, and its present count that of year s. A failed seat has count 0 and present count 1.
 -- An empty one is in no weight; it stands as a failed one.
@@ -47,12 +44,3 @@ vacant_at b N i = cond (is_member N i) (is_empty (seat_at b.seats i).mark) false
 -- is any named seat empty
 abbrev pub vacancy : Book → Benefit → Bool
 vacancy b x = any_to number_of_seats (vacant_at b x.named)
-
--- why a benefit may not be weighed for a year: the year is above 120, or a named seat is empty
-abbrev pub judge_weighing : Book → Benefit → ℕ → Answer
-judge_weighing b x t = cond (nat_lt 120 t) (Err Year) (cond (vacancy b x) (Err Vacant) (Ok tt))
-
--- the answer of a weighing: why it is refused, or a weight beside the full weight
-abbrev pub Weighed : Result Weight Refusal → Answer → ℕ → ℕ → Type 0
-Weighed (Ok w) a W F = (a ≡ Ok tt) × (w.weight ≡ W) × (w.full ≡ F)
-Weighed (Err e) a W F = a ≡ Err e

@@ -6,8 +6,8 @@ use seats::table::SeatTable;
 
 pub mod calls;
 pub mod numbers;
-pub mod shown;
 pub mod suppose;
+pub mod view;
 pub mod weigh;
 
 // Every seat has a whole column, and the present counts are at least 1 and multiply to no more than they may.

@@ -1,7 +1,7 @@
 -- How far the reader has come.
-use Rattle.std.proofs.Common.{◌≡◌, ℕ, zero, suc, ◌+◌, ◌<◌, ◌≤◌, List, [], ◌∷◌, ◌++◌, map, length, get_or, take, Ok, Err, Result, sym, refl, ap, ◌∙◌, subst, arith, take_all}
+use Rattle.std.proofs.Common.{◌≡◌, ℕ, zero, suc, ◌+◌, ◌<◌, ◌≤◌, List, [], ◌∷◌, ◌++◌, length, get_or, take, Ok, Err, Result, sym, refl, ap, ◌∙◌, subst, arith, take_all}
 use lib.Bits.{bit_or}
-use Rattle.std.proofs.lemmas.List.{take_more}
+use Rattle.std.proofs.lemmas.List.{take_more, length-map, map-append, take-map}
 use Rattle.std.proofs.lemmas.List.Sums.{fold_push}
 use Rattle.tokens.specs.declared.Token.{Token}
 use Rattle.expressions.specs.declared.Reader.{Reader}
@@ -15,7 +15,6 @@ use Rattle.expressions.proofs.Moving.{step_words, step-masks}
 use Rattle.expressions.proofs.Names.{named_in, named_is}
 use Rattle.expressions.proofs.Whole.{Stands, at_first, stands_more, viable, stuck, says_end, end_says}
 use Rattle.expressions.proofs.Packs.{mask_is}
-use Rattle.expressions.proofs.Stacks.{length-map'}
 use Rattle.tokens.specs.declared.faults.TokenFault.{TokenFault}
 use Rattle.expressions.specs.declared.Reading.{Reading}
 use Rattle.expressions.specs.declared.Expect.TheVariants as expect
@@ -28,12 +27,8 @@ pub record Along (ts : List Token) (i : ℕ) (r : Reader) : Type 0 where
   pub masks_few : length (masks_in r) ≤ i
   pub named_so : r.named ≡ named_in (codes_of (take i ts))
 
-pub map_push : {A B : Type 0} (f : A → B) (xs : List A) (x : A) → map f (xs ++ x ∷ []) ≡ map f xs ++ f x ∷ []
-map_push f [] x = refl
-map_push f (y ∷ ys) x = ap (λ l. f y ∷ l) (map_push f ys x)
-
 codes_more : (ts : List Token) (i : ℕ) (t : Token) → i < length ts → t ≡ get_or ts i t → codes_of (take (i + 1) ts) ≡ codes_of (take i ts) ++ t.code ∷ []
-codes_more ts i t h is = ap codes_of (take_more ts i t h ∙ ap (λ x. take i ts ++ x ∷ []) (sym is)) ∙ map_push (λ x. x.code) (take i ts) t
+codes_more ts i t h is = ap codes_of (take_more ts i t h ∙ ap (λ x. take i ts ++ x ∷ []) (sym is)) ∙ map-append (λ x. x.code) (take i ts) (t ∷ [])
 
 pub along_more : (ts : List Token) (i : ℕ) (r r' : Reader) (t : Token) → i < length ts → t ≡ get_or ts i t → (h : Along ts i r) → Moved h.state t.code r' → r'.named ≡ bit_or r.named (seats_of t.code) → Along ts (i + 1) r'
 along_more ts i r r' t lt is h m named =
@@ -47,11 +42,6 @@ along_more ts i r r' t lt is h m named =
       masks_few = omega (arith, step-masks step, ap length fits.answering, ap length h.fits.answering, h.masks_few);
       named_so = named ∙ ap (λ n. bit_or n (seats_of t.code)) h.named_so ∙ sym (ap named_in more ∙ fold_push (λ n c. bit_or n (seats_of c)) 0 (codes_of (take i ts)) t.code);
     }
-
-take_codes : (i : ℕ) (ts : List Token) → take i (codes_of ts) ≡ codes_of (take i ts)
-take_codes zero ts = refl
-take_codes (suc i) [] = refl
-take_codes (suc i) (t ∷ ts) = ap (λ l. t.code ∷ l) (take_codes i ts)
 
 place_at : (ts : List Token) (end i : ℕ) (d : Token) → i < length ts → place_of ts end i ≡ (get_or ts i d).place
 place_at [] end i d h = absurd (omega arith)
@@ -83,10 +73,10 @@ pub fault_at : (ts : List Token) (i end : ℕ) (r : Reader) (t : Token) (e : Tok
 fault_at ts i end r t e lt is h what none = (
   i,
   record {
-    within = omega (arith, length-map' (λ x. x.code) ts);
-    before = subst Viable (sym (take_codes i ts)) (viable _ h.state h.stands);
-    there = λ _ v. stuck (codes_of (take i ts)) h.state t.code h.stands none (subst Viable (take_codes (i + 1) ts ∙ codes_more ts i t lt is) v);
-    at_end = λ z. absurd (omega (arith, length-map' (λ x. x.code) ts));
+    within = omega (arith, length-map ts (λ x. x.code));
+    before = subst Viable (sym (take-map (λ x. x.code) i ts)) (viable _ h.state h.stands);
+    there = λ _ v. stuck (codes_of (take i ts)) h.state t.code h.stands none (subst Viable (take-map (λ x. x.code) (i + 1) ts ∙ codes_more ts i t lt is) v);
+    at_end = λ z. absurd (omega (arith, length-map ts (λ x. x.code)));
   },
   what ∙ ap wrong (ap (λ x. x.place) is ∙ sym (place_at ts end i t lt)),
 )
@@ -112,9 +102,9 @@ at_the_end ts i end r (Err e) ge le h f =
     let s : Stands (codes_of ts) h.state = subst (λ cs. Stands cs h.state) all h.stands in (
       i,
       record {
-        within = omega (arith, length-map' (λ x. x.code) ts);
-        before = subst Viable (sym (take_codes i ts)) (viable _ h.state h.stands);
-        there = λ lt _. absurd (omega (arith, length-map' (λ x. x.code) ts));
+        within = omega (arith, length-map ts (λ x. x.code));
+        before = subst Viable (sym (take-map (λ x. x.code) i ts)) (viable _ h.state h.stands);
+        there = λ lt _. absurd (omega (arith, length-map ts (λ x. x.code)));
         at_end = λ z t said. f.1 t (end_says _ _ t s said);
       },
       f.0 ∙ ap wrong (sym (place_past ts end i ge)),

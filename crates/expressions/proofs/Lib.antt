@@ -7,6 +7,7 @@ pub mod Stacks
 pub mod Packs
 pub mod Moving
 pub mod Along
+pub mod Answering
 pub mod Cutting
 pub mod Sets
 pub mod Owning

@@ -1,6 +1,5 @@
 -- What one token more does to the stacks, and where there is no step.
 use Rattle.std.proofs.Common.{◌≡◌, ℕ, ◌+◌, ◌-◌, ◌≤◌, true, false, List, [], ◌∷◌, length, sym, refl, ap, ◌∙◌, subst, arith}
-use lib.Count.{ones}
 use Rattle.tokens.specs.declared.Code.{Code}
 use Rattle.tokens.specs.declared.Code.TheVariants as code
 use Rattle.expressions.specs.declared.Group.{Group}
@@ -8,11 +7,12 @@ use Rattle.expressions.specs.declared.Count.{Count}
 use Rattle.expressions.specs.declared.Reader.{Reader}
 use Rattle.expressions.specs.declared.Word.{Word}
 use Rattle.expressions.specs.declared.Word.TheVariants.{Or, And, Not, Open}
+use Rattle.expressions.specs.declared.Expect.{Expect}
 use Rattle.expressions.specs.declared.Expect.TheVariants as expect
 use Rattle.expressions.specs.Grammar.{Tree, factor, term, expression, seat, group, not}
-use Rattle.expressions.specs.Layout.{words_in, masks_in, words_of, masks_of, words, masks, expects, Fits, Kept, complete_words, complete_masks, join_words, join_masks, is_top, is_nil}
+use Rattle.expressions.specs.Layout.{words_in, masks_in, words_of, masks_of, words, masks, expects, Fits, complete_words, complete_masks, join_words, join_masks, is_top, is_nil}
 use Rattle.expressions.specs.Masks.{always, mask_of}
-use Rattle.expressions.specs.Moves.{Moved}
+use Rattle.expressions.specs.Moves.{Moved, Stuck, Same}
 use Rattle.tokens.specs.Letters.{seats_of}
 use Rattle.expressions.specs.Open as part
 use Rattle.expressions.specs.Open.{whole, inside, first, after_or, lone, after_and, after_not}
@@ -44,25 +44,6 @@ settled-masks (lone k) a = term_masks k (masks_of k) (mask_of a)
 settled-masks (after_and c k) a = refl
 settled-masks (after_not k) a = settled-masks k (not a)
 
-pub fits_settled : (k : part.Open factor) (a : Tree) (ws : List Word) (ms : List ℕ) (m : ℕ) (r : Reader) → ws ≡ words_of k → ms ≡ masks_of k → m ≡ mask_of a → r.expect ≡ expect.Operator → words_in r ≡ complete_words ws → masks_in r ≡ complete_masks ws ms m → Fits (settled k a) r
-fits_settled k a ws ms m r at on is e w q = record {
-  expecting = e ∙ sym (settled-expects k a);
-  waiting = w ∙ ap complete_words at ∙ settled-words k a;
-  answering = q ∙ (λ i. complete_masks (at i) (on i) (is i)) ∙ settled-masks k a;
-}
-
-pub operand_stuck : (k : part.Open factor) (c : Code) → (c ≡ code.Not → ⊥) → (c ≡ code.Open → ⊥) → ((s : ℕ) → c ≡ code.Letters s → ones s ≡ 1 → ⊥) → (c ≡ code.Joint → ⊥) → (c ≡ code.Last → ⊥) → (c ≡ code.Exactly → ⊥) → (c ≡ code.AtLeast → ⊥) → (s' : State) → Step (operand k) c s' → ⊥
-operand_stuck k c n₀ n₁ n₂ n₃ n₄ n₅ n₆ s' by_not = n₀ refl
-operand_stuck k c n₀ n₁ n₂ n₃ n₄ n₅ n₆ s' by_open = n₁ refl
-operand_stuck k c n₀ n₁ n₂ n₃ n₄ n₅ n₆ s' (by_letter {s = s} one) = n₂ s refl one
-operand_stuck k c n₀ n₁ n₂ n₃ n₄ n₅ n₆ s' by_joint = n₃ refl
-operand_stuck k c n₀ n₁ n₂ n₃ n₄ n₅ n₆ s' by_last = n₄ refl
-operand_stuck k c n₀ n₁ n₂ n₃ n₄ n₅ n₆ s' by_exactly = n₅ refl
-operand_stuck k c n₀ n₁ n₂ n₃ n₄ n₅ n₆ s' by_atleast = n₆ refl
-
-pub letters_stuck : (k : part.Open factor) (s : ℕ) → (ones s ≡ 1 → ⊥) → (s' : State) → Step (operand k) (code.Letters s) s' → ⊥
-letters_stuck k s n s' (by_letter one) = n one
-
 -- a term joins the terms before it
 pub joined_words : (k : part.Open term) → join_words (words_of k) ≡ words_of (outer k)
 joined_words (first whole) = refl
@@ -84,11 +65,6 @@ open_there (inside l) e = (l, refl)
 pub close_stuck : (k : part.Open term) (a : Tree) → is_top Open (words_of (outer k)) ≡ false → (s' : State) → Step (operator k a) code.Close s' → ⊥
 close_stuck k a shut s' (by_close e) = no (sym shut ∙ ap (λ o. is_top Open (words_of o)) e)
 
-pub operator_stuck : (k : part.Open term) (a : Tree) (c : Code) → (c ≡ code.And → ⊥) → (c ≡ code.Or → ⊥) → (c ≡ code.Close → ⊥) → (s' : State) → Step (operator k a) c s' → ⊥
-operator_stuck k a c n₀ n₁ n₂ s' by_and = n₀ refl
-operator_stuck k a c n₀ n₁ n₂ s' by_or = n₁ refl
-operator_stuck k a c n₀ n₁ n₂ s' (by_close e) = n₂ refl
-
 pub digit_stuck : (q : Count) (k : part.Open factor) (c : Code) → ((d : ℕ) → c ≡ code.Digit d → ⊥) → (s' : State) → Step (digit q k) c s' → ⊥
 digit_stuck q k c n s' (by_digit {d = d}) = n d refl
 
@@ -101,15 +77,14 @@ run_stuck g k c n s' (by_letters {s = s}) = n s refl
 pub closing_stuck : (g : Group) (s : ℕ) (k : part.Open factor) (c : Code) → (c ≡ code.CloseSquare → ⊥) → (s' : State) → Step (closing g s k) c s' → ⊥
 closing_stuck g s k c n s' by_closing = n refl
 
-pub as_before : (r : Reader) → Kept r r
-as_before r = record { pending_room = refl; answers_room = refl; same_named = refl }
+-- the token d is taken, and the reader stands in s'
+pub moved : (s s' : State) {c d : Code} {r : Reader} → c ≡ d → Step s d s' → r.expect ≡ expects s' → words_in r ≡ words s' → masks_in r ≡ masks s' → Moved s c r
+moved s s' {r = r} is step e w m = subst (λ x. Moved s x r) (sym is) (s', step, record { expecting = e; waiting = w; answering = m })
 
-pub kept_on : (r s t : Reader) → Kept r s → Kept s t → Kept r t
-kept_on r s t h k = record { pending_room = k.pending_room ∙ h.pending_room; answers_room = k.answers_room ∙ h.answers_room; same_named = k.same_named ∙ h.same_named }
-
--- the token is d
-pub at-token : (s : State) {c d : Code} {r : Reader} → c ≡ d → Moved s d r → Moved s c r
-at-token s {r = r} e m = subst (λ x. Moved s x r) (sym e) m
+-- the token d completes the factor a
+pub settled_by : (s : State) (k : part.Open factor) (a : Tree) (ws : List Word) (ms : List ℕ) (m : ℕ) {c d : Code} {r : Reader} → c ≡ d → Step s d (settled k a) → ws ≡ words_of k → ms ≡ masks_of k → m ≡ mask_of a → r.expect ≡ expect.Operator → words_in r ≡ complete_words ws → masks_in r ≡ complete_masks ws ms m → Moved s c r
+settled_by s k a ws ms m here step at on is e w q =
+    moved s (settled k a) here step (e ∙ sym (settled-expects k a)) (w ∙ ap complete_words at ∙ settled-words k a) (q ∙ (λ i. complete_masks (at i) (on i) (is i)) ∙ settled-masks k a)
 
 pub no_seats : (c : Code) → ((s : ℕ) → c ≡ code.Letters s → ⊥) → seats_of c ≡ 0
 no_seats code.Or n = refl
@@ -136,14 +111,36 @@ still_open k a t shut (ends e) = no (sym shut ∙ ap (λ o. is_nil (words_of o))
 pub not_ended : (s : State) → (expects s ≡ expect.Operator → ⊥) → (t : Tree) → Ends s t → ⊥
 not_ended s n t (ends e) = n refl
 
--- a state that expects an operator
-pub at_operator : (s : State) → expects s ≡ expect.Operator → (k : part.Open term) × (a : Tree) × (s ≡ operator k a)
-at_operator (operator k a) e = (k, a, refl)
-at_operator (operand k) e = let z : ◌≡◌ {A = ℕ} 0 1 = cc in absurd (omega arith)
-at_operator (digit q k) e = let z : ◌≡◌ {A = ℕ} 0 1 = cc in absurd (omega arith)
-at_operator (square g k) e = let z : ◌≡◌ {A = ℕ} 0 1 = cc in absurd (omega arith)
-at_operator (letters g k) e = let z : ◌≡◌ {A = ℕ} 0 1 = cc in absurd (omega arith)
-at_operator (closing g s k) e = let z : ◌≡◌ {A = ℕ} 0 1 = cc in absurd (omega arith)
+-- the states that expect e
+abbrev pub Is : Expect → State → Type 0
+Is expect.Operand s = (k : part.Open factor) × (s ≡ operand k)
+Is expect.Operator s = (k : part.Open term) × (a : Tree) × (s ≡ operator k a)
+Is (expect.Digit q) s = (k : part.Open factor) × (s ≡ digit q k)
+Is (expect.Square g) s = (k : part.Open factor) × (s ≡ square g k)
+Is (expect.Letters g) s = (k : part.Open factor) × (s ≡ letters g k)
+Is (expect.Closing g n) s = (k : part.Open factor) × (s ≡ closing g n k)
+
+expects_is : (s : State) → Is (expects s) s
+expects_is (operand k) = (k, refl)
+expects_is (operator k a) = (k, a, refl)
+expects_is (digit q k) = (k, refl)
+expects_is (square g k) = (k, refl)
+expects_is (letters g k) = (k, refl)
+expects_is (closing g n k) = (k, refl)
+
+-- which state a reader is in that expects e
+pub state_is : (s : State) {r : Reader} (e : Expect) → Fits s r → r.expect ≡ e → Is e s
+state_is s e f is = subst (λ x. Is x s) (sym f.expecting ∙ is) (expects_is s)
+
+-- a step from t is one from the same state s
+pub from_state : {s t : State} {c : Code} {r : Reader} → s ≡ t → Moved t c r → Moved s c r
+from_state {c = c} {r = r} is m = subst (λ x. Moved x c r) (sym is) m
+
+pub stuck_state : {s t : State} {c : Code} → s ≡ t → Stuck t c → Stuck s c
+stuck_state {c = c} is m = subst (λ x. Stuck x c) (sym is) m
+
+pub fits_same : {s : State} {r m : Reader} → Same r m → Fits s r → Fits s m
+fits_same n f = record { expecting = n.same_expect ∙ f.expecting; waiting = n.same_words ∙ f.waiting; answering = n.same_masks ∙ f.answering }
 
 complete_words_short : (ws : List Word) → length (complete_words ws) ≤ length ws
 complete_words_short [] = omega arith

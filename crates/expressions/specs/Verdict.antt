@@ -8,6 +8,7 @@ use Rattle.patterns.specs.Seats.{patterns}
 use Rattle.expressions.specs.Grammar.{Tree, Says, Viable}
 use Rattle.expressions.specs.Meaning.{holds, packed, seats_in}
 use Rattle.expressions.specs.Moves.{wrong}
+use Rattle.expressions.specs.declared.lists.Lists.{Lists}
 use Rattle.expressions.specs.declared.reads.ReadFault.{ReadFault}
 use Rattle.expressions.specs.declared.reads.ReadFault.TheVariants as fault
 use Rattle.expressions.specs.Cuts.{cut_all}
@@ -39,6 +40,22 @@ pub record Read (x : Reading) (cs : List Code) : Type 0 where
 abbrev pub Verdict : Result Reading TokenFault → List Token → ℕ → Type 0
 Verdict (Ok x) ts end = Read x (codes_of ts)
 Verdict (Err e) ts end = (i : ℕ) × FirstWrong (codes_of ts) i × (e ≡ wrong (place_of ts end i))
+
+-- how many places there are for pending words, and for answers
+abbrev pub pending_room : Lists → ℕ
+pending_room l = length l.pending.now
+
+abbrev pub answers_room : Lists → ℕ
+answers_room l = length l.answers.now
+
+-- the verdict on a text's tokens, or the fault of the cut, which comes first
+abbrev pub SaidOf : Result (List Token) TokenFault → Result Reading TokenFault → ℕ → Type 0
+SaidOf (Ok ts) r end = Verdict r ts end
+SaidOf (Err e) r end = r ≡ Err e
+
+-- what reading a text says, in lists that are long enough
+abbrev pub Said : Result Reading TokenFault → List ℕ → Type 0
+Said r text = SaidOf (cut_all text) r (length text)
 
 -- a token's fault as the reader's
 abbrev pub raised : TokenFault → ReadFault

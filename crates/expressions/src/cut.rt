@@ -1,7 +1,10 @@
 // Cuts a text into its tokens.
-ghost use Rattle.std.specs.Prelude.{◌≡◌, ◌≤◌, length, take, Ok, Err, MatchResult};
+ghost use Rattle.std.specs.Prelude.{◌≡◌, ◌≤◌, [], Ok, Err, MatchResult};
+ghost use Rattle.arrayvec.specs.ArrayVec.{array_vec_len};
 ghost use Rattle.expressions.specs.Cuts.{cut_all, lower};
 
+use crate::MOST_TOKENS;
+use arrayvec::ArrayVec;
 use refusals::Refusal;
 use tokens::Token;
 use tokens::faults::TokenFault;
@@ -18,32 +21,28 @@ fn lower_code(refusal: Refusal) -> Refusal
     }
 }
 
-// Cuts a text into its tokens, and answers their number.
-pub(crate) fn cut(text: &[u8], tokens: &mut [Token]) -> Result<usize, TokenFault>
-    requires { length tokens.old ≡ 64 }
-    ensures { MatchResult result (λ n. (n ≤ 64) × (cut_all text.now ≡ Ok (take n tokens.new))) (λ e. cut_all text.now ≡ Err e) }
+// Cuts a text into its tokens.
+pub(crate) fn cut(text: &[u8], tokens: &mut ArrayVec<Token, MOST_TOKENS>) -> Result<(), TokenFault>
+    requires { tokens.old.items ≡ [] }
+    ensures { MatchResult result (λ _. (array_vec_len tokens.new ≤ 64) × (cut_all text.now ≡ Ok tokens.new.items)) (λ e. cut_all text.now ≡ Err e) }
 {
     let mut lexer = Lexer::new(text);
-    for i in 0..64 {
-        match lexer.peek()? {
-            Some(token) => {
-                tokens[i] = token;
-                lexer.skip();
-            }
-            None => return Ok(i),
-        }
+    while !tokens.is_full() {
+        let Some(token) = lexer.peek()? else {
+            return Ok(());
+        };
+        tokens.push(token);
+        lexer.skip();
     }
     match lexer.peek() {
-        Ok(next) => match next {
-            Some(token) => Err(TokenFault {
-                refusal: Refusal::TooManyTokens,
-                place: token.place,
-            }),
-            None => Ok(64),
-        },
-        Err(e) => Err(TokenFault {
-            refusal: lower_code(e.refusal),
-            place: e.place,
+        Ok(None) => Ok(()),
+        Ok(Some(Token { place, .. })) => Err(TokenFault {
+            refusal: Refusal::TooManyTokens,
+            place,
+        }),
+        Err(TokenFault { refusal, place }) => Err(TokenFault {
+            refusal: lower_code(refusal),
+            place,
         }),
     }
 }

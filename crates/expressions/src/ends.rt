@@ -5,19 +5,16 @@ ghost use Rattle.expressions.specs.Layout.{words_in, Fits, is_nil};
 ghost use Rattle.expressions.specs.Moves.{Finished};
 ghost use Rattle.expressions.specs.States.{State};
 
+use crate::wrong::wrong_at;
 use crate::{Expect, Reader, Reading};
-use refusals::Refusal;
 use tokens::faults::TokenFault;
 
-impl Reader<'_, '_> {
+impl Reader<'_> {
     // Whether no word waits.
     fn is_spent(&self) -> bool
         ensures { result ≡ is_nil (words_in self.now) }
     {
-        match self.pending.top() {
-            Some(_) => false,
-            None => true,
-        }
+        self.pending.top().is_none()
     }
 
     // The end of the text, at the place `end`.
@@ -25,26 +22,16 @@ impl Reader<'_, '_> {
         requires { 0 < room self.old.answers }
         ensures { (s : State) → Fits s self.old → Finished result s end self.old.named }
     {
-        match self.expect {
-            Expect::Operator => {
-                self.join();
-                if self.is_spent() {
-                    let answers = self.answers.top().unwrap_or(0);
-                    Ok(Reading {
-                        answers,
-                        named: self.named,
-                    })
-                } else {
-                    Err(TokenFault {
-                        refusal: Refusal::Grammar,
-                        place: end,
-                    })
-                }
-            }
-            _ => Err(TokenFault {
-                refusal: Refusal::Grammar,
-                place: end,
-            }),
+        let Expect::Operator = self.expect else {
+            return Err(wrong_at(end));
+        };
+        self.join();
+        if self.is_spent() {
+            let answers = self.answers.top().unwrap_or(0);
+            let named = self.named;
+            Ok(Reading { answers, named })
+        } else {
+            Err(wrong_at(end))
         }
     }
 }

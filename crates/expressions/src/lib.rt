@@ -5,15 +5,20 @@ mod answers;
 mod cut;
 mod ends;
 mod groups;
+pub mod lists;
 mod reads;
 mod spends;
 mod steps;
+mod wrong;
 
 pub use reads::{ReadFault, read};
 use stacks::Stack;
 
+// The most tokens of an expression, and the places of each list that reading works in.
+pub const MOST_TOKENS: usize = 64;
+
 // A word that waits for an operand to its right.
-#[derive(Clone, Copy)]
+#[derive(Clone, Copy, PartialEq, Eq)]
 pub enum Word {
     Or,
     And,
@@ -57,8 +62,8 @@ pub enum Expect {
 
 // The words that wait, the answers of what is complete, what comes next, and the seats named so far.
 #[derive(Drop)]
-pub struct Reader<'p, 'a> {
-    pending: Stack<'p, Pending>,
+pub struct Reader<'a> {
+    pending: Stack<'a, Pending>,
     answers: Stack<'a, u16>,
     expect: Expect,
     named: u8,

@@ -5,15 +5,12 @@ ghost use Rattle.expressions.specs.Layout.{words_in, masks_in, Kept, is_top, com
 
 use crate::{Expect, Pending, Reader, Word};
 
-impl Reader<'_, '_> {
+impl Reader<'_> {
     // Whether this word waits on top.
     pub(crate) fn is_top(&self, word: Word) -> bool
         ensures { result ≡ is_top word (words_in self.now) }
     {
-        match self.pending.top() {
-            Some(p) => p.word as u8 == word as u8,
-            None => false,
-        }
+        self.pending.top().is_some_and(|p| p.word == word)
     }
 
     // A word waits for its operand.
@@ -25,7 +22,7 @@ impl Reader<'_, '_> {
         ensures masks { masks_in self.new ≡ masks_in self.old }
         ensures expect { self.new.expect ≡ Expect.Operand }
     {
-        let _ = self.pending.push(Pending { word, place });
+        self.pending.push(Pending { word, place }).unwrap();
         self.expect = Expect::Operand;
     }
 
@@ -37,7 +34,7 @@ impl Reader<'_, '_> {
         ensures masks { masks_in self.new ≡ mask ∷ masks_in self.old }
         ensures expect { self.new.expect ≡ Expect.Operator }
     {
-        let _ = self.answers.push(mask);
+        self.answers.push(mask).unwrap();
         self.expect = Expect::Operator;
     }
 
@@ -75,7 +72,7 @@ impl Reader<'_, '_> {
             let _ = self.pending.pop();
             let b = self.answers.pop().unwrap_or(0);
             let a = self.answers.pop().unwrap_or(0);
-            let _ = self.answers.push(a | b);
+            self.answers.push(a | b).unwrap();
         }
     }
 }

@@ -6,15 +6,14 @@ ghost use Rattle.expressions.specs.Layout.{words_in, masks_in, Kept, Fits, compl
 ghost use Rattle.expressions.specs.Moves.{Took, Same};
 ghost use Rattle.tokens.specs.Letters.{seats_of};
 ghost use Rattle.expressions.specs.Open.{Open as OpenPart};
-ghost use Rattle.expressions.specs.States.{operand as operand_state, operator as operator_state, digit as digit_state, square as square_state, letters as letters_state, closing as closing_state, counted, State};
+ghost use Rattle.expressions.specs.States.{operand as operand_state, operator as operator_state, State};
 
-use crate::groups::group_mask;
+use crate::wrong::wrong_at;
 use crate::{Count, Expect, Group, Reader, Word};
-use refusals::Refusal;
 use tokens::faults::TokenFault;
 use tokens::{Code, Token};
 
-impl Reader<'_, '_> {
+impl Reader<'_> {
     // A token where an operand is expected.
     fn operand(&mut self, token: Token) -> Result<(), TokenFault>
         requires words { length (words_in self.old) < room self.old.pending }
@@ -23,46 +22,16 @@ impl Reader<'_, '_> {
         ensures took { (k : OpenPart factor) → Fits (operand_state k) self.old → Took result (operand_state k) token self.new }
     {
         match token.code {
-            Code::Not => {
-                self.wait(Word::Not, token.place);
-                Ok(())
-            }
-            Code::Open => {
-                self.wait(Word::Open, token.place);
-                Ok(())
-            }
-            Code::Letters(set) => {
-                if set.count_ones() == 1 {
-                    self.complete(group_mask(Group::Last, set));
-                    Ok(())
-                } else {
-                    Err(TokenFault {
-                        refusal: Refusal::Grammar,
-                        place: token.place,
-                    })
-                }
-            }
-            Code::Joint => {
-                self.expect = Expect::Square(Group::Joint);
-                Ok(())
-            }
-            Code::Last => {
-                self.expect = Expect::Square(Group::Last);
-                Ok(())
-            }
-            Code::Exactly => {
-                self.expect = Expect::Digit(Count::Exact);
-                Ok(())
-            }
-            Code::AtLeast => {
-                self.expect = Expect::Digit(Count::Least);
-                Ok(())
-            }
-            _ => Err(TokenFault {
-                refusal: Refusal::Grammar,
-                place: token.place,
-            }),
+            Code::Not => self.wait(Word::Not, token.place),
+            Code::Open => self.wait(Word::Open, token.place),
+            Code::Letters(set) if set.count_ones() == 1 => self.complete(Group::Last.mask(set)),
+            Code::Joint => self.expect = Expect::Square(Group::Joint),
+            Code::Last => self.expect = Expect::Square(Group::Last),
+            Code::Exactly => self.expect = Expect::Digit(Count::Exact),
+            Code::AtLeast => self.expect = Expect::Digit(Count::Least),
+            _ => return Err(wrong_at(token.place)),
         }
+        Ok(())
     }
 
     // The expression so far is in parentheses.
@@ -86,101 +55,21 @@ impl Reader<'_, '_> {
         ensures took { (k : OpenPart term) (a : Tree) → Fits (operator_state k a) self.old → Took result (operator_state k a) token self.new }
     {
         match token.code {
-            Code::And => {
-                self.wait(Word::And, token.place);
-                Ok(())
-            }
+            Code::And => self.wait(Word::And, token.place),
             Code::Or => {
                 self.join();
                 self.wait(Word::Or, token.place);
-                Ok(())
             }
             Code::Close => {
                 self.join();
-                if self.is_top(Word::Open) {
-                    self.close();
-                    Ok(())
-                } else {
-                    Err(TokenFault {
-                        refusal: Refusal::Grammar,
-                        place: token.place,
-                    })
+                if !self.is_top(Word::Open) {
+                    return Err(wrong_at(token.place));
                 }
+                self.close();
             }
-            _ => Err(TokenFault {
-                refusal: Refusal::Grammar,
-                place: token.place,
-            }),
+            _ => return Err(wrong_at(token.place)),
         }
-    }
-
-    // The digit of a group.
-    fn digit(&mut self, count: Count, token: Token) -> Result<(), TokenFault>
-        ensures kept { Kept self.old self.new }
-        ensures took { (k : OpenPart factor) → Fits (digit_state count k) self.old → Took result (digit_state count k) token self.new }
-    {
-        match token.code {
-            Code::Digit(n) => {
-                self.expect = Expect::Square(group_of(count, n));
-                Ok(())
-            }
-            _ => Err(TokenFault {
-                refusal: Refusal::Grammar,
-                place: token.place,
-            }),
-        }
-    }
-
-    // The bracket that opens a group's letters.
-    fn square(&mut self, group: Group, token: Token) -> Result<(), TokenFault>
-        ensures kept { Kept self.old self.new }
-        ensures took { (k : OpenPart factor) → Fits (square_state group k) self.old → Took result (square_state group k) token self.new }
-    {
-        match token.code {
-            Code::OpenSquare => {
-                self.expect = Expect::Letters(group);
-                Ok(())
-            }
-            _ => Err(TokenFault {
-                refusal: Refusal::Grammar,
-                place: token.place,
-            }),
-        }
-    }
-
-    // A group's letters.
-    fn letters(&mut self, group: Group, token: Token) -> Result<(), TokenFault>
-        ensures kept { Kept self.old self.new }
-        ensures took { (k : OpenPart factor) → Fits (letters_state group k) self.old → Took result (letters_state group k) token self.new }
-    {
-        match token.code {
-            Code::Letters(set) => {
-                self.expect = Expect::Closing(group, set);
-                Ok(())
-            }
-            _ => Err(TokenFault {
-                refusal: Refusal::Grammar,
-                place: token.place,
-            }),
-        }
-    }
-
-    // The bracket that closes a group.
-    fn closing(&mut self, group: Group, set: u8, token: Token) -> Result<(), TokenFault>
-        requires masks { length (masks_in self.old) < room self.old.answers }
-        ensures kept { Kept self.old self.new }
-        ensures took { (k : OpenPart factor) → Fits (closing_state group set k) self.old → Took result (closing_state group set k) token self.new }
-    {
-        match token.code {
-            Code::CloseSquare => {
-                self.complete(group_mask(group, set));
-                Ok(())
-            }
-            _ => Err(TokenFault {
-                refusal: Refusal::Grammar,
-                place: token.place,
-            }),
-        }
+        Ok(())
     }
 
     // Notes the seats that a token names.
@@ -203,23 +92,17 @@ impl Reader<'_, '_> {
         ensures took { (s : State) → Fits s self.old → Took result s token self.new }
     {
         self.name(token.code);
-        match self.expect {
-            Expect::Operand => self.operand(token),
-            Expect::Operator => self.operator(token),
-            Expect::Digit(count) => self.digit(count, token),
-            Expect::Square(group) => self.square(group, token),
-            Expect::Letters(group) => self.letters(group, token),
-            Expect::Closing(group, set) => self.closing(group, set, token),
+        match (self.expect, token.code) {
+            (Expect::Operand, _) => return self.operand(token),
+            (Expect::Operator, _) => return self.operator(token),
+            (Expect::Digit(count), Code::Digit(n)) => self.expect = Expect::Square(count.group(n)),
+            (Expect::Square(group), Code::OpenSquare) => self.expect = Expect::Letters(group),
+            (Expect::Letters(group), Code::Letters(set)) => {
+                self.expect = Expect::Closing(group, set);
+            }
+            (Expect::Closing(group, set), Code::CloseSquare) => self.complete(group.mask(set)),
+            _ => return Err(wrong_at(token.place)),
         }
-    }
-}
-
-// The group of a word and its digit.
-fn group_of(count: Count, n: u8) -> Group
-    ensures { result ≡ counted count n }
-{
-    match count {
-        Count::Exact => Group::Exactly(n),
-        Count::Least => Group::AtLeast(n),
+        Ok(())
     }
 }

@@ -1,7 +1,7 @@
 // Prints worked figures, each by all three routes.
 #![tactic(auto)]
 
-use annuities::routed::factor_by;
+use annuities::pricing::Pricing;
 use benefits::benefit::Benefit;
 use cases::enrolling::Enrolling;
 use cases::inforce::InForce;
@@ -25,44 +25,33 @@ fn show(rt: &HostRuntime, name: &str, answer: Result<u64, Refusal>) -> io::Resul
     }
 }
 
-// The weight for a year by a route.
-fn weight(case: &InForce, benefit: &Benefit, year: u32, route: Route) -> Result<u64, Refusal> {
-    let weight = case.weigh(benefit, year, route)?;
-    Ok(weight.weight)
-}
+// The routes, and how each is printed.
+const ROUTES: [(Route, &str); 3] = [
+    (Route::Patterns, "by patterns"),
+    (Route::Subsets, "by subsets"),
+    (Route::Counts, "by counts"),
+];
 
 // The weights for the first years, and the factor.
 fn show_routes(rt: &HostRuntime, case: &InForce, benefit: &Benefit) -> io::Result<()> {
     for year in 0..5 {
         println!(rt; "  year {year}")?;
-        show(
-            rt,
-            "by patterns",
-            weight(case, benefit, year, Route::Patterns),
-        )?;
-        show(
-            rt,
-            "by subsets",
-            weight(case, benefit, year, Route::Subsets),
-        )?;
-        show(rt, "by counts", weight(case, benefit, year, Route::Counts))?;
+        for (route, name) in ROUTES {
+            let weight = case.weigh(benefit, year, route);
+            show(rt, name, weight.map(|weight| weight.weight))?;
+        }
     }
     println!(rt; "  factor at {RATE}")?;
-    show(
-        rt,
-        "by patterns",
-        factor_by(case, benefit, RATE, Route::Patterns),
-    )?;
-    show(
-        rt,
-        "by subsets",
-        factor_by(case, benefit, RATE, Route::Subsets),
-    )?;
-    show(
-        rt,
-        "by counts",
-        factor_by(case, benefit, RATE, Route::Counts),
-    )
+    for (route, name) in ROUTES {
+        let pricing = Pricing {
+            view: case.as_supposed(),
+            benefit,
+            rate: RATE,
+            route,
+        };
+        show(rt, name, pricing.factor())?;
+    }
+    Ok(())
 }
 
 // The differences at none alive, and the symmetric sums for year 1.

@@ -16,8 +16,7 @@ use Rattle.routes.specs.declared.route.Route.TheVariants.{Patterns, Subsets, Cou
 use Rattle.cases.specs.Book.{Book, Answer}
 use Rattle.cases.specs.Weighing.{weight_of, vacant_at, vacancy}
 use Rattle.cases.specs.Routing.{ByNumber, judge_route, judge_routed}
-use Rattle.annuities.specs.Values.{accepted, yearly_of, CutOf}
-use Rattle.annuities.specs.Routed.{factored_by}
+use Rattle.annuities.specs.Values.{accepted, yearly_of, factored, CutOf}
 use Rattle.histories.specs.declared.calls.Account.{Account}
 use Rattle.histories.specs.Law.{Accepted, Routes, FactorCut, Factors, WorkedBy, Answered}
 
@@ -57,11 +56,11 @@ module _ (b : Book) (x : Benefit) (t : ℕ) (h : Accepted b x) (q : t ≤ 120) w
 
   -- (c)
   module _ (i : ℕ) (low : i ≤ 10000) where
-    factor_is : (route : Route) (f : Result ℕ Refusal) → judge_routed b x t route ≡ Ok tt → f ≡ factored_by b x i t route → f ≡ Ok (yearly_of b x i t)
+    factor_is : (route : Route) (f : Result ℕ Refusal) → judge_routed b x t route ≡ Ok tt → f ≡ factored b x i t route → f ≡ Ok (yearly_of b x i t)
     factor_is route f ok e =
         e ∙ ap₂ (λ (u : Bool) (p : Answer). cond u (Err Number) (accepted {X = ℕ} p (Ok (yearly_of b x i t)))) (le-ltb 10000 i low) ok
 
-    cut_is : (route : Route) (f : Result ℕ Refusal) → judge_routed b x t route ≡ Ok tt → f ≡ factored_by b x i t route → CutOf f b x i t → FactorCut b x t i f
+    cut_is : (route : Route) (f : Result ℕ Refusal) → judge_routed b x t route ≡ Ok tt → f ≡ factored b x i t route → CutOf f b x i t → FactorCut b x t i f
     cut_is route f ok e cut = let is = factor_is route f ok e in (yearly_of b x i t, (is, subst (λ (g : Result ℕ Refusal). CutOf g b x i t) is cut))
 
     pub factors : (a : Account) → Answered b x t i a → CutOf a.patterns.factor b x i t → CutOf a.subsets.factor b x i t → CutOf a.counts.factor b x i t → Factors b x t i a

@@ -1,5 +1,5 @@
 -- The weight by who survives this year, in the book of a case: the theorem on weights, carried over seat by seat.
-use Rattle.std.proofs.Common.{◌≡◌, ℕ, suc, ◌+◌, ◌-◌, ◌*◌, ◌/◌, ◌%◌, ◌^◌, ◌<◌, ◌≤◌, Bool, true, false, cond, ◌&&◌, eqb, leb, List, [], ◌∷◌, map, length, get_or, sym, refl, ap, ◌∙◌, ap₂, le_trans, le_of_eq, one-mul, div-one, arith}
+use Rattle.std.proofs.Common.{◌≡◌, ℕ, suc, ◌+◌, ◌-◌, ◌*◌, ◌/◌, ◌%◌, ◌^◌, ◌<◌, ◌≤◌, Bool, true, false, cond, ◌&&◌, ◌||◌, eqb, leb, List, [], ◌∷◌, map, length, get_or, sym, refl, ap, ◌∙◌, ap₂, le_trans, le_of_eq, one-mul, div-one, arith}
 use Rattle.std.proofs.lemmas.List.{length-map}
 use Rattle.std.proofs.lemmas.Bool.{false≢true}
 use Rattle.patterns.specs.Anys.{is_member}
@@ -127,11 +127,11 @@ module _ (s t : ℕ) (soon : 1 ≤ t) where
   other_after Living xs any vs J = refl
   other_after Failed xs any vs J = refl
 
-  first-lives : (u v any : Bool) → (cond u true v ≡ true → any ≡ true) → u ≡ true → any ≡ true
+  first-lives : (u v any : Bool) → (u || v ≡ true → any ≡ true) → u ≡ true → any ≡ true
   first-lives true v any h e = h refl
   first-lives false v any h e = absurd (false≢true e)
 
-  rest-lives : (u v any : Bool) → (cond u true v ≡ true → any ≡ true) → v ≡ true → any ≡ true
+  rest-lives : (u v any : Bool) → (u || v ≡ true → any ≡ true) → v ≡ true → any ≡ true
   rest-lives true v any h e = h refl
   rest-lives false v any h e = h e
 

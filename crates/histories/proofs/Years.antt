@@ -1,5 +1,5 @@
 -- A year in the book of a case: the failures of those who do not survive it, one after another, and its end.
-use Rattle.std.proofs.Common.{◌≡◌, ℕ, ◌+◌, ◌<◌, ◌≤◌, Bool, true, false, cond, ◌&&◌, leb, List, [], ◌∷◌, ◌++◌, map, length, get_or, set, Ok, Err, refl, ap, ◌∙◌, ap₂, append_assoc, arith}
+use Rattle.std.proofs.Common.{◌≡◌, ℕ, ◌+◌, ◌<◌, ◌≤◌, Bool, true, false, cond, ◌&&◌, ◌||◌, leb, List, [], ◌∷◌, ◌++◌, map, length, get_or, set, Ok, Err, refl, ap, ◌∙◌, ap₂, append_assoc, arith}
 use Rattle.std.proofs.lemmas.List.{get_or_at, set_at, length_push}
 use Rattle.std.proofs.lemmas.Bool.{false≢true, ne_eqb, leb-true, lt-leb}
 use Rattle.refusals.specs.declared.Refusal.TheVariants.{NoSeat, Ending}
@@ -87,9 +87,9 @@ none_ends s [] J e h = refl
 none_ends s (x ∷ xs) [] e h = absurd (omega arith)
 none_ends s (x ∷ xs) (true ∷ J) e h =
     let k = both (survives s x) (survivors s xs J) h in
-    ap₂ (λ (u v : Bool). cond u true v) (stays_one x.mark x.counts (s + 1) k.0) (none_ends s xs J (omega arith) k.1)
+    ap₂ (λ (u v : Bool). u || v) (stays_one x.mark x.counts (s + 1) k.0) (none_ends s xs J (omega arith) k.1)
 none_ends s (x ∷ xs) (false ∷ J) e h =
-    ap₂ (λ (u v : Bool). cond u true v) (fallen_stays x.mark x.counts (s + 1)) (none_ends s xs J (omega arith) h)
+    ap₂ (λ (u v : Bool). u || v) (fallen_stays x.mark x.counts (s + 1)) (none_ends s xs J (omega arith) h)
 
 year_ends : (b : Book) → any_of (ending (b.elapsed + 1)) b.seats ≡ false → step year_end b ≡ done year_end b
 year_ends b e = accepted year_end b (ap (λ (u : Bool). cond u (Err Ending) (Ok tt)) e)

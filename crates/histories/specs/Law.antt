@@ -12,8 +12,7 @@ use Rattle.cases.specs.Book.{Book}
 use Rattle.cases.specs.Weighing.{weight_of, full_of}
 use Rattle.cases.specs.Routing.{ByNumber, judge_routed}
 use Rattle.annuities.specs.Discounts.{discount}
-use Rattle.annuities.specs.Values.{Cut, accepted}
-use Rattle.annuities.specs.Routed.{factored_by, valued_by}
+use Rattle.annuities.specs.Values.{Cut, accepted, factored, valued}
 use Rattle.histories.specs.declared.calls.Worked.{Worked}
 use Rattle.histories.specs.declared.calls.Account.{Account}
 use Rattle.histories.specs.Survival.{NamesLiving, Survivors}
@@ -50,8 +49,8 @@ pub record Law (b : Book) (x : Benefit) (t i : ℕ) (a : Account) : Type 0 where
 -- by one route
 pub record WorkedBy (route : Route) (b : Book) (x : Benefit) (t i : ℕ) (w : Worked) : Type 0 where
   pub weight : w.weight ≡ accepted (judge_routed b x t route) (Ok (weight_of b x t))
-  pub factor : w.factor ≡ factored_by b x i t route
-  pub valuation : w.valuation ≡ valued_by b x i route
+  pub factor : w.factor ≡ factored b x i t route
+  pub valuation : w.valuation ≡ valued b x i route
 
 -- by the three
 pub record Answered (b : Book) (x : Benefit) (t i : ℕ) (a : Account) : Type 0 where

@@ -5,40 +5,42 @@ ghost use Rattle.cases.specs.Views.{enrolling_book, in_force_book};
 ghost use Rattle.histories.specs.History.{called, calls, calls_of};
 
 use crate::calls::{Enrolment, Event, Look};
-use annuities::routed::value_by;
-use benefits::benefit::Benefit;
+use annuities::pricing::Pricing;
 use cases::enrolling::Enrolling;
 use cases::inforce::InForce;
 use lives::life::Life;
 
-// Looks at a case, whatever the answer is. A benefit that is not among those given is not looked at.
-fn look(case: &InForce, benefits: &[Benefit], next: Look) {
+// Looks at a case, whatever the answer is.
+fn look(case: &InForce, next: Look) {
     match next {
-        Look::Weigh(number, year, route) => {
-            if number < benefits.len() {
-                let _ = case.weigh(&benefits[number], year, route);
-            }
+        Look::Weigh(benefit, year, route) => {
+            let _ = case.weigh(benefit, year, route);
         }
-        Look::Value(number, rate, route) => {
-            if number < benefits.len() {
-                let _ = value_by(case, &benefits[number], rate, route);
+        Look::Value(benefit, rate, route) => {
+            let view = case.as_supposed();
+            let _ = Pricing {
+                view,
+                benefit,
+                rate,
+                route,
             }
+            .value();
         }
     }
 }
 
 // Supposes a seat failed, looks at the case, and ends the supposition.
-fn suppose(case: &mut InForce, seat: usize, benefits: &[Benefit], looks: &[Look])
+fn suppose(case: &mut InForce, seat: usize, looks: &[Look])
     ensures { case.new ≡ case.old }
 {
     let guard = case.suppose(seat);
     for next in looks {
-        look(guard.case(), benefits, *next);
+        look(guard.case(), *next);
     }
 }
 
 // One call on a case in force, whatever it answers.
-fn carry(case: &mut InForce, benefits: &[Benefit], event: &Event)
+fn carry(case: &mut InForce, event: &Event)
     ensures book { in_force_book case.new ≡ run (calls_of event.now) (in_force_book case.old) }
     ensures supposed { case.new.supposed ≡ case.old.supposed }
 {
@@ -49,18 +51,18 @@ fn carry(case: &mut InForce, benefits: &[Benefit], event: &Event)
         Event::YearEnd => {
             let _ = case.year_end();
         }
-        Event::Suppose(seat, looks) => suppose(case, *seat, benefits, looks),
-        Event::Look(next) => look(case, benefits, *next),
+        Event::Suppose(seat, looks) => suppose(case, *seat, looks),
+        Event::Look(next) => look(case, *next),
     }
 }
 
 // The calls on a case in force, one after another.
-pub fn carry_all(case: &mut InForce, benefits: &[Benefit], events: &[Event])
+pub fn carry_all(case: &mut InForce, events: &[Event])
     ensures book { in_force_book case.new ≡ run (calls events.now) (in_force_book case.old) }
     ensures supposed { case.new.supposed ≡ case.old.supposed }
 {
     for event in events {
-        carry(case, benefits, event);
+        carry(case, event);
     }
 }
 

@@ -1,10 +1,10 @@
 // What a benefit is worth if a seat failed now.
 ghost use Rattle.std.specs.Prelude.{◌≡◌, Some};
 ghost use Rattle.cases.specs.Views.{in_force_book};
-ghost use Rattle.annuities.specs.Routed.{valued_by};
+ghost use Rattle.annuities.specs.Values.{valued};
 ghost use Rattle.histories.specs.History.{supposed_now};
 
-use annuities::routed::value_by;
+use annuities::pricing::Pricing;
 use annuities::valuation::Valuation;
 use benefits::benefit::Benefit;
 use cases::inforce::InForce;
@@ -20,9 +20,16 @@ pub fn value_supposing(
     route: Route,
 ) -> Result<Valuation, Refusal>
     ensures same { case.new ≡ case.old }
-    ensures value { result ≡ valued_by (supposed_now (Some seat) (in_force_book case.old)) benefit.now rate route }
+    ensures value { result ≡ valued (supposed_now (Some seat) (in_force_book case.old)) benefit.now rate route }
 {
     let guard = case.suppose(seat);
-    let valuation = value_by(guard.case(), benefit, rate, route)?;
+    let view = guard.case().as_supposed();
+    let pricing = Pricing {
+        view,
+        benefit,
+        rate,
+        route,
+    };
+    let valuation = pricing.value()?;
     Ok(valuation)
 }

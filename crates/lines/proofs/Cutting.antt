@@ -1,23 +1,27 @@
 -- Pieces, from where the first stop stands.
-use Rattle.std.proofs.Common.{◌≡◌, ℕ, zero, suc, ◌+◌, ◌-◌, ◌<◌, ◌≤◌, true, false, eqb, List, [], ◌∷◌, length, get_or, take, drop, sym, refl, ap, ◌∙◌, arith}
-use Rattle.std.specs.List.{AllByRecursion}
-use Rattle.std.proofs.lemmas.Bool.{ne_eqb, eq-eqb, eqb-true, eqb-false, cond_both}
-use Rattle.std.proofs.lemmas.List.{take_rest, drop_more, drop_all, take_all, length-take-le, drop-drop}
+use Rattle.std.proofs.Common.{◌≡◌, ℕ, ◌+◌, ◌-◌, ◌<◌, eqb, List, [], ◌∷◌, length, ltb, Some, None, Option, take, drop, sym, refl, ap, ◌∙◌, arith}
+use Rattle.std.specs.List.{AllByRecursion, position, position_or_len}
+use Rattle.std.specs.Option.{MatchOption, unwrap_or}
+use Rattle.std.proofs.lemmas.List.Sums.{fails_before_first}
+use Rattle.std.proofs.lemmas.List.Splits.{slice_split_first, slice_split_none}
+use Rattle.std.proofs.lemmas.Bool.{eqb-true, eqb-false, cond_both, ltb-true, ltb-false}
+use Rattle.std.proofs.lemmas.List.{take_rest, drop_more, drop_all, take_all}
 use Rattle.writing.specs.Printed.{spaced}
 use Rattle.lines.specs.Pieces.{onto, pieces, fields, FieldsStand}
 
-pub pieces_none : (stop : ℕ) (bs : List ℕ) → ((k : ℕ) → k < length bs → get_or bs k 0 ≡ stop → ⊥) → pieces stop bs ≡ bs ∷ []
-pieces_none stop [] h = refl
-pieces_none stop (c ∷ cs) h =
-    let e : eqb c stop ≡ false = ne_eqb c stop (h 0 (omega arith)) in
-    rw e (ap (onto c) (pieces_none stop cs (λ k l. h (suc k) (omega arith))))
+-- an answer to where the first piece ends
+abbrev pub Found : ℕ → List ℕ → Option ℕ → Type 0
+Found stop bs r = MatchOption r (pieces stop bs ≡ bs ∷ []) (λ i. (i < length bs) × (pieces stop bs ≡ take i bs ∷ pieces stop (drop (i + 1) bs)))
 
-pub pieces-at : (stop : ℕ) (bs : List ℕ) (i : ℕ) → i < length bs → get_or bs i 0 ≡ stop → ((k : ℕ) → k < i → get_or bs k 0 ≡ stop → ⊥) → pieces stop bs ≡ take i bs ∷ pieces stop (drop (suc i) bs)
-pieces-at stop [] i l e h = absurd (omega arith)
-pieces-at stop (c ∷ cs) zero l e h = let f : eqb c stop ≡ true = eq-eqb c stop e in rw f refl
-pieces-at stop (c ∷ cs) (suc i) l e h =
-    let f : eqb c stop ≡ false = ne_eqb c stop (h 0 (omega arith)) in
-    rw f (ap (onto c) (pieces-at stop cs i (omega arith) e (λ k b. h (suc k) (omega arith))))
+-- it ends at the first stop
+found_position : (stop : ℕ) (bs : List ℕ) → Found stop bs (position (λ b. eqb b stop) bs)
+found_position stop bs =
+    cond_both (ltb (position_or_len (λ b. eqb b stop) bs) (length bs)) (Some (position_or_len (λ b. eqb b stop) bs)) None (Found stop bs)
+    (λ e. let l = ltb-true (position_or_len (λ b. eqb b stop) bs) (length bs) e in (l, slice_split_first (λ b. eqb b stop) bs 0 l))
+    (λ e. slice_split_none (λ b. eqb b stop) bs (λ k d l. fails_before_first (λ b. eqb b stop) bs k d (omega (arith, ltb-false (position_or_len (λ b. eqb b stop) bs) (length bs) e))))
+
+pub found : (stop : ℕ) (bs : List ℕ) (r : Option ℕ) → r ≡ position (λ b. eqb b stop) bs → Found stop bs r
+found stop bs r e = rw e (found_position stop bs)
 
 -- fields, written again
 spaced-onto : (c : ℕ) (ps : List (List ℕ)) (cs : List ℕ) → spaced ps ≡ 32 ∷ cs → spaced (onto c ps) ≡ 32 ∷ (c ∷ cs)
@@ -53,13 +57,10 @@ pub fields_body : (rest : List ℕ) → 0 < length rest → fields rest ≡ piec
 fields_body [] h = absurd (omega arith)
 fields_body (c ∷ cs) h = ap (pieces 32) (sym (take_rest (c ∷ cs) 1))
 
-pub cut_some : (body f a : List ℕ) (i : ℕ) → i < length body → pieces 32 body ≡ take i body ∷ pieces 32 (drop (i + 1) body) → f ≡ take i body → a ≡ drop i body → pieces 32 body ≡ f ∷ fields a
-cut_some body f a i l e p q = let d = ap fields (q ∙ drop_more body i 0 l) in cc
-
-pub cut_none : (body f a : List ℕ) (i : ℕ) → i ≡ length body → pieces 32 body ≡ body ∷ [] → f ≡ take i body → a ≡ drop i body → pieces 32 body ≡ f ∷ fields a
-cut_none body f a i l e p q = let d = ap fields (q ∙ drop_all i body (omega arith)) in let t = take_all i body (omega arith) in cc
-
-pub cut_left : (rest f a : List ℕ) (i : ℕ) → 0 < length rest → i ≤ length (take (length rest - 1) (drop 1 rest)) → f ≡ take i (take (length rest - 1) (drop 1 rest)) → a ≡ drop i (take (length rest - 1) (drop 1 rest)) → a ≡ drop (length f + 1) rest
-cut_left rest f a i h l p q =
-    let n : length f ≡ i = ap length p ∙ length-take-le i (take (length rest - 1) (drop 1 rest)) l in
-    q ∙ ap (drop i) (take_rest rest 1) ∙ drop-drop i 1 rest ∙ ap (λ k. drop k rest) (omega arith)
+pub cut_off : (body f a : List ℕ) (r : Option ℕ) (n : ℕ) → Found 32 body r → n ≡ unwrap_or r (length body) → f ≡ take n body → a ≡ drop n body → pieces 32 body ≡ f ∷ fields a
+cut_off body f a None n at e p q =
+    let d = ap fields (q ∙ drop_all n body (omega arith)) in
+    let t = take_all n body (omega arith) in cc
+cut_off body f a (Some i) n at e p q =
+    let l : n < length body = rw e at.0 in
+    let d = ap fields (q ∙ drop_more body n 0 l) in cc

@@ -1,17 +1,15 @@
 -- Text that is parted by a byte.
-use Rattle.std.specs.Prelude.{◌≡◌, ℕ, cond, List, [], ◌∷◌, ◌==◌, ◌≢◌}
-use Rattle.std.specs.List.{AllByRecursion}
+use Rattle.std.specs.Prelude.{◌≡◌, ℕ, List, [], ◌∷◌, ◌==◌, ◌≢◌}
+use Rattle.std.specs.List.{AllByRecursion, onto_first, slice_split}
 use Rattle.writing.specs.Printed.{spaced}
 
 -- a byte before the first piece
 abbrev pub onto : ℕ → List (List ℕ) → List (List ℕ)
-onto c [] = (c ∷ []) ∷ []
-onto c (p ∷ ps) = (c ∷ p) ∷ ps
+onto c ps = onto_first c ps
 
 -- what lies between the stops of a text, and before the first and after the last
 abbrev pub pieces : ℕ → List ℕ → List (List ℕ)
-pieces stop [] = [] ∷ []
-pieces stop (c ∷ cs) = cond (c == stop) ([] ∷ pieces stop cs) (onto c (pieces stop cs))
+pieces stop bs = slice_split (λ c. c == stop) bs
 
 -- the fields of what follows a line's kind, each after its space
 abbrev pub fields : List ℕ → List (List ℕ)

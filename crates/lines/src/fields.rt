@@ -12,14 +12,11 @@ pub fn cut(rest: &[u8]) -> (&[u8], &[u8])
     ensures len { length rest.now ≡ length result.0.now + length result.1.now + 1 }
 {
     let body = &rest[1..];
-    let end = match find(body, b' ') {
-        Some(i) => i,
-        None => body.len(),
-    };
-    body.split_at(end)
+    body.split_at(find(body, b' ').unwrap_or(body.len()))
 }
 
 // What the fields of a line are.
+#[tactic(auto, using(crate::proofs::Cutting::fields_stand))]
 pub fn fields_stand() -> u8
     ensures { FieldsStand }
 {

@@ -1,7 +1,8 @@
 -- Lists that make a life, by the test.
-use Rattle.std.proofs.Common.{◌≡◌, ℕ, zero, suc, ◌+◌, ◌<◌, ◌≤◌, true, false, leb, List, [], ◌∷◌, length, get_or, drop, refl, ◌∙◌, add-one, arith}
-use Rattle.std.proofs.lemmas.List.{at_drop_more, at_drop_all}
-use Rattle.std.proofs.lemmas.Bool.{and_parts, and_from, and_left, le-leb, lt-leb, leb-true, both_ways}
+use Rattle.std.proofs.Common.{◌≡◌, ℕ, zero, suc, ◌+◌, ◌<◌, ◌≤◌, Bool, true, false, leb, List, [], ◌∷◌, length, get_or, sym, refl, ⊎_elim, add-one, arith}
+use Rattle.std.specs.List.{IsAllAdjacentAnswer, AllAdjacentBelow}
+use Rattle.std.proofs.lemmas.List.{get_or_past}
+use Rattle.std.proofs.lemmas.Bool.{and_parts, and_from, le-leb, leb-true, leb-false, cases_lt, true≢false, false≢true}
 use Rattle.lives.specs.Tables.{Fair, falls, fairly}
 
 falls_to : (top : ℕ) (xs : List ℕ) → get_or xs 0 0 ≤ top → ((t : ℕ) → get_or xs (suc t) 0 ≤ get_or xs t 0) → falls top xs ≡ true
@@ -21,29 +22,37 @@ low : (xs : List ℕ) → get_or xs 0 0 ≤ 1000000 → ((t : ℕ) → get_or xs
 low xs h f zero = h
 low xs h f (suc t) = omega (arith, low xs h f t, f t)
 
+-- no count is above the one before it, as a test of each and the next says
+never_rises : (xs : List ℕ) → AllAdjacentBelow (λ x y. true ≡ leb y x) xs (length xs) → (t : ℕ) → get_or xs (t + 1) 0 ≤ get_or xs t 0
+never_rises xs adjacent t =
+    ⊎_elim (λ (h : t + 1 < length xs). leb-true (get_or xs (t + 1) 0) (get_or xs t 0) (sym (adjacent t 0 h)))
+    (λ (h : length xs ≤ t + 1). omega (arith, get_or_past xs (t + 1) 0 h)) (cases_lt (t + 1) (length xs))
+
+fair_from : (xs : List ℕ) → length xs ≤ 121 → get_or xs 0 0 ≤ 1000000 → ((t : ℕ) → get_or xs (t + 1) 0 ≤ get_or xs t 0) → Fair xs
+fair_from xs short top falling = record { short = short; bounded = low xs top (λ t. rw add-one at (falling t)); falling = falling }
+
 pub fairly_from : (xs : List ℕ) → Fair xs → fairly xs ≡ true
 fairly_from xs f = and_from (leb (length xs) 121) (falls 1000000 xs) (le-leb (length xs) 121 f.short) (falls_to 1000000 xs (f.bounded 0) (λ t. rw add-one at (f.falling t)))
 
 pub fair_from_fairly : (xs : List ℕ) → fairly xs ≡ true → Fair xs
 fair_from_fairly xs e =
-    let p = and_parts (leb (length xs) 121) (falls 1000000 xs) e in record {
-      short = leb-true (length xs) 121 p.0;
-      bounded = low xs (falls-first 1000000 xs p.1) (falls_from 1000000 xs p.1);
-      falling = λ t. rw add-one (falls_from 1000000 xs p.1 t);
-    }
+    let p = and_parts (leb (length xs) 121) (falls 1000000 xs) e in
+    fair_from xs (leb-true (length xs) 121 p.0) (falls-first 1000000 xs p.1) (λ t. rw add-one (falls_from 1000000 xs p.1 t))
 
-pub not_fair : (xs : List ℕ) → fairly xs ≡ false → Fair xs → ⊥
-not_fair xs e f = both_ways (fairly xs) e (fairly_from xs f)
+-- what the test promises of its answer
+abbrev pub Judges : List ℕ → Bool → Type 0
+Judges xs r = (r ≡ fairly xs) × (r ≡ true → Fair xs) × (r ≡ false → Fair xs → ⊥)
 
-pub too_long : (xs : List ℕ) → 121 < length xs → fairly xs ≡ false
-too_long xs h = and_left (leb (length xs) 121) (falls 1000000 xs) (lt-leb (length xs) 121 h)
+accepted : (xs : List ℕ) → Fair xs → Judges xs true
+accepted xs f = (sym (fairly_from xs f), (λ _. f), (λ e. absurd (true≢false e)))
 
--- the test, place by place
-pub falls_over : (xs : List ℕ) (i top : ℕ) → i < length xs → top < get_or xs i 0 → falls top (drop i xs) ≡ false
-falls_over xs i top h over = at_drop_more (falls top) xs i 0 h ∙ and_left (leb (get_or xs i 0) top) (falls (get_or xs i 0) (drop (i + 1) xs)) (lt-leb (get_or xs i 0) top over)
+not_fairly : (xs : List ℕ) (b : Bool) → fairly xs ≡ b → (Fair xs → ⊥) → false ≡ b
+not_fairly xs true e unfair = absurd (unfair (fair_from_fairly xs e))
+not_fairly xs false e unfair = refl
 
-pub falls_more : (xs : List ℕ) (i top : ℕ) → i < length xs → get_or xs i 0 ≤ top → falls top (drop i xs) ≡ falls (get_or xs i 0) (drop (i + 1) xs)
-falls_more xs i top h under = at_drop_more (falls top) xs i 0 h ∙ rw (le-leb (get_or xs i 0) top under)
+refused : (xs : List ℕ) → (Fair xs → ⊥) → Judges xs false
+refused xs unfair = (not_fairly xs (fairly xs) refl unfair, (λ h. absurd (false≢true h)), (λ _. unfair))
 
-pub falls-all : (xs : List ℕ) (i top : ℕ) → length xs ≤ i → falls top (drop i xs) ≡ true
-falls-all xs i top h = at_drop_all (falls top) xs i h
+pub judged : (xs : List ℕ) (r : Bool) → length xs ≤ 121 → get_or xs 0 0 ≤ 1000000 → IsAllAdjacentAnswer (λ x y b. b ≡ leb y x) xs r → Judges xs r
+judged xs true short top adjacent = accepted xs (fair_from xs short top (never_rises xs adjacent))
+judged xs false short top (k, h, rises) = refused xs (λ f. omega (arith, f.falling k, leb-false (get_or xs (k + 1) 0) (get_or xs k 0) (sym (rises 0))))

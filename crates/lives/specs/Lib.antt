@@ -1,7 +1,6 @@
 -- The definitions that the contracts cite.
 pub mod Column
 pub mod Counts
-pub mod Kinds
 pub mod Projection
 pub mod Tables
 pub mod Projections

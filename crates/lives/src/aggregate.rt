@@ -4,15 +4,15 @@ ghost use Rattle.refusals.specs.declared.Refusal.TheVariants.{Counts};
 ghost use Rattle.lives.specs.Column.{column};
 ghost use Rattle.lives.specs.Counts.{listed};
 ghost use Rattle.lives.specs.Tables.{Fair, fairly};
-ghost use Rattle.std.proofs.Common.{rules, arith};
+ghost use Rattle.std.proofs.Common.{subst, sym};
 ghost use Rattle.std.proofs.lemmas.List.{get_or_past};
 
-use crate::life::Life;
+use crate::life::{Life, MOST, YEARS};
 use refusals::Refusal;
 
 #[derive(Drop)]
 pub struct Aggregate {
-    counts: [u32; 121],
+    counts: [u32; YEARS],
     ghost whole: { length counts ≡ 121 },
     ghost bounded: { (t : ℕ) → slice_index counts t ≤ 1000000 },
     ghost falling: { (t : ℕ) → slice_index counts (t + 1) ≤ slice_index counts t },
@@ -24,28 +24,18 @@ pub fn fair(list: &[u32]) -> bool
     ensures yes { result ≡ true → Fair list.now }
     ensures no { result ≡ false → Fair list.now → ⊥ }
 {
-    if list.len() > 121 {
-        return false;
-    }
-    let mut top = 1_000_000;
-    for x in list {
-        if *x > top {
-            return false;
-        }
-        top = *x;
-    }
-    true
+    list.len() <= YEARS
+        && list.first().is_none_or(|top| *top <= MOST)
+        && list.is_sorted_by(|x, y| *x >= *y)
 }
 
 // The counts of a list of at most 121, and 0 past it.
-fn filled(list: &[u32]) -> [u32; 121]
+fn filled(list: &[u32]) -> [u32; YEARS]
     requires { length list.now ≤ 121 }
     ensures { (t : ℕ) → slice_index result t ≡ slice_index list.now t }
 {
-    let mut counts = [0; 121];
-    for (i, x) in list.iter().enumerate() {
-        counts[i] = *x;
-    }
+    let mut counts = [0; YEARS];
+    counts[..list.len()].copy_from_slice(list);
     counts
 }
 
@@ -54,7 +44,7 @@ impl Aggregate {
     pub fn new() -> Aggregate
         ensures { result.counts ≡ replicate 121 0 }
     {
-        Aggregate { counts: [0; 121] }
+        Aggregate { counts: [0; YEARS] }
     }
 
     // Year t then has entry t, and 0 past the list.
@@ -72,21 +62,17 @@ impl Aggregate {
 impl Life for Aggregate {
     ghost count = { λ s. listed s.counts };
 
-    ghost bounded = { first_of (Prim.search rules, Prim.grind (arith, Self.row.coded.inj)) };
+    ghost bounded = { λ x. x.bounded };
 
-    ghost falling = { first_of (Prim.search rules, Prim.grind (arith, Self.row.coded.inj)) };
+    ghost falling = { λ x. x.falling };
 
-    ghost ended = { λ x t late. Prim.search (rules, get_or_past) };
+    ghost ended = { λ x t late. get_or_past x.counts t 0 (subst (λ n. n ≤ t) (sym x.whole) late) };
 
     fn at(&self, year: u32) -> u32 {
-        if year > 120 {
-            0
-        } else {
-            self.counts[year as usize]
-        }
+        self.counts.get(year as usize).copied().unwrap_or(0)
     }
 
-    fn column(&self) -> [u32; 121] {
+    fn column(&self) -> [u32; YEARS] {
         self.counts
     }
 }

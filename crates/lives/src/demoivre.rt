@@ -2,9 +2,10 @@
 ghost use Rattle.std.specs.Prelude.{◌≡◌, ℕ, ◌+◌, ◌-◌, ◌*◌, ◌<◌, ◌≤◌, MatchResult};
 ghost use Rattle.refusals.specs.declared.Refusal.TheVariants.{Limit};
 ghost use Rattle.lives.specs.Counts.{straight};
-ghost use Rattle.std.proofs.Common.{mul-le-mul_left, mul-zero, arith};
+ghost use Rattle.std.proofs.Common.{◌∙◌, ap, mul-zero};
+ghost use Rattle.std.proofs.Math.Nat.{mul-le-mul_left, le_trans, le-add_right, sub-le, sub-le-sub_left, sub-eq-zero_of_le};
 
-use crate::life::Life;
+use crate::life::{Life, MOST};
 use refusals::Refusal;
 
 #[derive(Drop)]
@@ -27,7 +28,7 @@ impl DeMoivre {
     pub fn load(&mut self, years: u32, step: u32) -> Result<(), Refusal>
         ensures { MatchResult result (λ _. (years ≤ 120) × (step * years ≤ 1000000) × (self.new.years ≡ years) × (self.new.step ≡ step)) (λ e. (e ≡ Limit) × (years ≤ 120 → step * years ≤ 1000000 → ⊥) × (self.new ≡ self.old)) }
     {
-        if years > 120 || u64::from(step) * u64::from(years) > 1_000_000 {
+        if years > 120 || u64::from(step) * u64::from(years) > u64::from(MOST) {
             return Err(Refusal::Limit);
         }
         self.years = years;
@@ -39,23 +40,13 @@ impl DeMoivre {
 impl Life for DeMoivre {
     ghost count = { λ s. straight s.years s.step };
 
-    ghost bounded = { λ x t.
-        let h : x.years - t ≤ x.years = omega arith in
-        omega (arith, mul-le-mul_left x.step h) };
+    ghost bounded = { λ x t. le_trans (mul-le-mul_left x.step (sub-le x.years t)) x.small };
 
-    ghost falling = { λ x t.
-        let h : x.years - (t + 1) ≤ x.years - t = omega arith in
-        mul-le-mul_left x.step h };
+    ghost falling = { λ x t. mul-le-mul_left x.step (sub-le-sub_left (le-add_right t 1) x.years) };
 
-    ghost ended = { λ x t late.
-        let h : x.years - t ≡ 0 = omega arith in
-        rw h (mul-zero x.step) };
+    ghost ended = { λ x t late. ap (λ n. x.step * n) (sub-eq-zero_of_le (le_trans x.short (le_trans (le-add_right 120 1) late))) ∙ mul-zero x.step };
 
     fn at(&self, year: u32) -> u32 {
-        if year >= self.years {
-            0
-        } else {
-            self.step * (self.years - year)
-        }
+        self.step * self.years.saturating_sub(year)
     }
 }

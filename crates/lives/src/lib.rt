@@ -4,6 +4,6 @@
 pub mod aged;
 pub mod aggregate;
 pub mod demoivre;
-pub mod either;
+pub mod kinds;
 pub mod life;
 pub mod projected;

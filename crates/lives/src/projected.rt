@@ -6,19 +6,20 @@ ghost use Rattle.lives.specs.Projection.{deaths, projected, entries};
 ghost use Rattle.std.proofs.Common.{le_trans};
 ghost use Rattle.lives.specs.Projections.{projected_le, projected-falls, projected_ended};
 
-use crate::life::Life;
+use crate::life::{Life, YEARS};
 use refusals::Refusal;
 
 // The factors of years 0 to 120, in thousandths.
 #[derive(Drop)]
 pub struct Projected<L> {
     life: L,
-    factors: [u32; 121],
+    factors: [u32; YEARS],
     ghost factored: { length factors ≡ 121 },
     ghost limited: { (t : ℕ) → slice_index factors t ≤ 10000 },
 }
 
 // The deaths of a year among those alive, from the counts below of this year and the next.
+#[tactic(auto, unfolding(crate::specs::Projection::deaths))]
 fn deaths(here: u32, next: u32, factor: u32, alive: u32) -> u32
     requires some { 0 < here }
     requires falls { next ≤ here }
@@ -39,7 +40,7 @@ impl<L: Life> Projected<L> {
     {
         Projected {
             life,
-            factors: [1000; 121],
+            factors: [1000; YEARS],
         }
     }
 
@@ -64,8 +65,7 @@ impl<L: Life> Projected<L> {
         if factor > 10_000 {
             return Err(Refusal::Limit);
         }
-        let factors = [factor; 121];
-        self.factors = factors;
+        self.factors.fill(factor);
         Ok(())
     }
 }
@@ -80,25 +80,21 @@ impl<L: Life> Life for Projected<L> {
     ghost ended = { λ x t late. projected_ended (L.Life.count x.life) (entries x.factors) t (L.Life.ended x.life t late) };
 
     fn at(&self, year: u32) -> u32 {
-        if year > 120 {
-            0
-        } else {
-            self.column()[year as usize]
-        }
+        self.column().get(year as usize).copied().unwrap_or(0)
     }
 
-    fn column(&self) -> [u32; 121] {
-        let mut counts = [0; 121];
-        let below = self.life.column();
-        let mut alive = below[0];
-        counts[0] = alive;
-        for t in 0..120 {
-            let next = below[t + 1];
+    fn column(&self) -> [u32; YEARS] {
+        let mut counts = self.life.column();
+        let mut here = counts[0];
+        let mut alive = here;
+        for (t, count) in counts[1..].iter_mut().enumerate() {
+            let next = *count;
             if next == 0 {
-                return counts;
+                break;
             }
-            alive -= deaths(below[t], next, self.factors[t], alive);
-            counts[t + 1] = alive;
+            alive -= deaths(here, next, self.factors[t], alive);
+            *count = alive;
+            here = next;
         }
         counts
     }

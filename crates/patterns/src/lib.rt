@@ -4,6 +4,8 @@
 ghost use Rattle.std.specs.Prelude.{◌≡◌, ℕ, ◌≤◌, length, get_or};
 ghost use Rattle.patterns.specs.Seats.{patterns};
 
+pub mod sets;
+
 // Seats A, B, C, .. have the numbers 0, 1, 2, ..
 pub const SEATS: usize = 4;
 

@@ -4,34 +4,57 @@
 ghost use Rattle.std.specs.Prelude.{◌≡◌};
 ghost use Rattle.refusals.specs.Numbers.{number};
 
-use std::fmt;
+use thiserror::Error;
 
-#[derive(Clone, Copy, PartialEq, Eq, Debug)]
+#[derive(Clone, Copy, PartialEq, Eq, Debug, Error)]
 pub enum Refusal {
     // Because of the input.
+    #[error("a byte that belongs to no token")]
     UnknownByte,
+    #[error("an expression of more than 64 tokens")]
     TooManyTokens,
+    #[error("an unknown word")]
     UnknownWord,
+    #[error("no expression goes on like this")]
     Grammar,
+    #[error("the letters of a run do not rise")]
     NotRising,
+    #[error("a number is missing, ill-written or beyond its limit")]
     Number,
+    #[error("the shares of a pattern add up to more than 20 twentieths")]
     AboveFull,
+    #[error("a benefit of more than eight clauses")]
     TooManyClauses,
+    #[error("there is no such seat")]
     NoSeat,
+    #[error("the counts make no life: too many, too large, or rising")]
     Counts,
+    #[error("a number of years, a step or a factor is beyond its limit")]
     Limit,
+    #[error("the year is above 120")]
     Year,
+    #[error("the file is longer than 32,256 bytes")]
     FileTooLong,
+    #[error("the line has no kind, no end, or the wrong number of fields")]
     Line,
+    #[error("there is too little memory")]
     Memory,
+    #[error("the life has count 0 in year 0")]
     NoCount,
+    #[error("two patterns with equally many of the named alive have different shares")]
     Uneven,
     // Because of the state.
+    #[error("the seat is not empty")]
     Occupied,
+    #[error("the seat is empty")]
     Vacant,
+    #[error("the seat has failed already")]
     AlreadyFailed,
+    #[error("the counts of year 0 multiply to more than 10^16")]
     ProductTooLarge,
+    #[error("a living life has no count for the next year")]
     Ending,
+    #[error("a line of this kind does not belong to this phase")]
     Phase,
 }
 
@@ -64,49 +87,6 @@ impl Refusal {
             Refusal::ProductTooLarge => 25,
             Refusal::Ending => 26,
             Refusal::Phase => 28,
-        }
-    }
-}
-
-// The refusal in words, for a person.
-impl fmt::Display for Refusal {
-    fn fmt<W: fmt::Write>(&self, f: &mut fmt::Formatter<W>) -> fmt::Result {
-        match self {
-            Refusal::UnknownByte => f.write_str("a byte that belongs to no token"),
-            Refusal::TooManyTokens => f.write_str("an expression of more than 64 tokens"),
-            Refusal::UnknownWord => f.write_str("an unknown word"),
-            Refusal::Grammar => f.write_str("no expression goes on like this"),
-            Refusal::NotRising => f.write_str("the letters of a run do not rise"),
-            Refusal::Number => f.write_str("a number is missing, ill-written or beyond its limit"),
-            Refusal::AboveFull => f.write_str(
-                "the shares of a pattern add up to more than 20 twentieths",
-            ),
-            Refusal::TooManyClauses => f.write_str("a benefit of more than eight clauses"),
-            Refusal::NoSeat => f.write_str("there is no such seat"),
-            Refusal::Counts => f.write_str(
-                "the counts make no life: too many, too large, or rising",
-            ),
-            Refusal::Limit => f.write_str(
-                "a number of years, a step or a factor is beyond its limit",
-            ),
-            Refusal::Year => f.write_str("the year is above 120"),
-            Refusal::FileTooLong => f.write_str("the file is longer than 32,256 bytes"),
-            Refusal::Line => f.write_str(
-                "the line has no kind, no end, or the wrong number of fields",
-            ),
-            Refusal::Memory => f.write_str("there is too little memory"),
-            Refusal::NoCount => f.write_str("the life has count 0 in year 0"),
-            Refusal::Uneven => f.write_str(
-                "two patterns with equally many of the named alive have different shares",
-            ),
-            Refusal::Occupied => f.write_str("the seat is not empty"),
-            Refusal::Vacant => f.write_str("the seat is empty"),
-            Refusal::AlreadyFailed => f.write_str("the seat has failed already"),
-            Refusal::ProductTooLarge => f.write_str(
-                "the counts of year 0 multiply to more than 10^16",
-            ),
-            Refusal::Ending => f.write_str("a living life has no count for the next year"),
-            Refusal::Phase => f.write_str("a line of this kind does not belong to this phase"),
         }
     }
 }

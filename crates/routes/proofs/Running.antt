@@ -1,5 +1,5 @@
--- A product over the seats, as a loop makes it: one seat after another, the set's number halved on the way.
-use Rattle.std.proofs.Common.{◌≡◌, ℕ, zero, suc, ◌+◌, ◌*◌, ◌/◌, ◌%◌, ◌<◌, ◌≤◌, eqb, List, [], ◌∷◌, length, drop, sym, refl, ap, ◌∙◌, subst, add-one, arith, drop-cons}
+-- A product over the seats, as a loop makes it: one seat after another, the set's number halved for each.
+use Rattle.std.proofs.Common.{◌≡◌, ℕ, zero, suc, ◌+◌, ◌*◌, ◌/◌, ◌%◌, ◌^◌, ◌<◌, ◌≤◌, eqb, List, [], ◌∷◌, length, drop, sym, refl, ap, ◌∙◌, subst, add-one, arith, drop-cons}
 use native.Mathlib.Nat as NatL
 use Rattle.patterns.specs.Patterns.{flags}
 use Rattle.weights.specs.declared.exposure.Exposure.{Exposure}
@@ -10,6 +10,10 @@ use Rattle.weights.specs.Patterns.{times}
 pub record Running (x y : Exposure → ℕ) (ls : List Exposure) (p i product rest : ℕ) : Type 0 where
   pub value : product * times x y (drop i ls) (flags (length (drop i ls)) rest) ≡ times x y ls (flags (length ls) p)
   pub bound : product * D (drop i ls) ≤ D ls
+
+-- halved once more
+pub half_of : (p i : ℕ) → p / 2 ^ i / 2 ≡ p / 2 ^ (i + 1)
+half_of p i = NatL.div-div-eq-div-mul p (2 ^ i) 2 ∙ ap (λ (n : ℕ). p / n) (sym (NatL.pow-suc 2 i) ∙ ap (λ (k : ℕ). 2 ^ k) (sym (add-one i)))
 
 pub start : (x y : Exposure → ℕ) (ls : List Exposure) (p : ℕ) → Running x y ls p 0 1 p
 start x y ls p = record { value = NatL.one-mul (times x y ls (flags (length ls) p)); bound = NatL.le_of_eq (NatL.one-mul (D ls)) }

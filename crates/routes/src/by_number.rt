@@ -3,7 +3,7 @@ ghost use Rattle.std.specs.Prelude.{◌≡◌, ℕ, ◌+◌, ◌≤◌, true, fa
 ghost use Rattle.patterns.specs.Seats.{seats};
 ghost use Rattle.weights.specs.Numbers.{OnlyNumber, uneven, share_with};
 
-use patterns::{PATTERNS, SEATS, Shares};
+use patterns::{SEATS, Shares};
 
 // How many numbers of lives alive there are: none to all.
 pub(crate) const NUMBERS: usize = SEATS + 1;
@@ -21,9 +21,9 @@ pub fn shares_by_number(shares: &Shares, named: usize) -> NumberShares
     ensures { (k : ℕ) → slice_index result.twentieths k ≡ share_with seats (λ p. slice_index shares.now.twentieths p) named k }
 {
     let mut twentieths = [0; NUMBERS];
-    for p in 0..PATTERNS {
+    for (p, share) in shares.twentieths.iter().enumerate() {
         if p & named == p {
-            twentieths[p.count_ones() as usize] = shares.twentieths[p];
+            twentieths[p.count_ones() as usize] = *share;
         }
     }
     NumberShares { twentieths }
@@ -36,9 +36,9 @@ pub fn is_even(shares: &Shares, named: usize) -> bool
     ensures no { result ≡ false → OnlyNumber seats (λ p. slice_index shares.now.twentieths p) named → ⊥ }
 {
     let by_number = shares_by_number(shares, named);
-    for p in 0..PATTERNS {
+    for (p, share) in shares.twentieths.iter().enumerate() {
         if p & named == p {
-            if shares.twentieths[p] != by_number.twentieths[p.count_ones() as usize] {
+            if *share != by_number.twentieths[p.count_ones() as usize] {
                 return false;
             }
         }

@@ -20,8 +20,8 @@ fn set_difference(shares: &Shares, set: usize) -> i64
     ensures bound { unsigned_abs result ≤ 20 * patterns }
 {
     let mut sum: i64 = 0;
-    for p in 0..PATTERNS {
-        sum += sign_of(set, p) as i64 * shares.twentieths[p] as i64;
+    for (p, share) in shares.twentieths.iter().enumerate() {
+        sum += i64::from(sign_of(set, p)) * *share as i64;
     }
     sum
 }

@@ -5,6 +5,7 @@ ghost use Rattle.patterns.specs.Patterns.{flags};
 ghost use Rattle.weights.specs.Exposures.{counted, standing, D};
 ghost use Rattle.weights.specs.Patterns.{times};
 
+use patterns::sets::is_member;
 use weights::exposures::Exposures;
 use weights::weight::Weight;
 
@@ -14,14 +15,12 @@ pub(crate) fn set_product(exposures: &Exposures, set: usize) -> u64
     ensures bound { result ≤ D exposures.now.seats }
 {
     let mut product = 1;
-    let mut rest = set;
-    for seat in &exposures.seats {
-        if rest % 2 == 1 {
+    for (i, seat) in exposures.seats.iter().enumerate() {
+        if is_member(set, i) {
             product *= seat.count;
         } else {
             product *= seat.present;
         }
-        rest /= 2;
     }
     product
 }

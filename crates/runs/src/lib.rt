@@ -4,7 +4,7 @@
 ghost use Rattle.std.specs.Prelude.{◌≡◌, ◌≤◌, length, take, drop};
 ghost use Rattle.runs.specs.Run.{FileRuns, ran, code};
 
-use outcome::Outcome;
+use outcome::{Outcome, Stop};
 use writing::output::Output;
 
 pub mod outcome;
@@ -22,7 +22,7 @@ pub fn run(file: &[u8], out: &mut [u8]) -> Outcome
     let ending = told::tell(file, &mut output);
     Outcome {
         len: output.len,
-        code: ending.code(),
+        code: ending.err().map_or(0, Stop::code),
         ending,
     }
 }

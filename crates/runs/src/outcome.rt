@@ -1,14 +1,17 @@
 // What a run answers.
-ghost use Rattle.std.specs.Prelude.{◌≡◌};
+ghost use Rattle.std.specs.Prelude.{◌≡◌, Err};
+ghost use Rattle.schemes.specs.Faults.{in_line};
+ghost use Rattle.runs.specs.declared.outcome.Stop.TheVariants as stop;
 ghost use Rattle.runs.specs.Run.{code};
 
 use refusals::Refusal;
-use schemes::fault::LineFault;
+use schemes::fault::{Fault, LineFault};
+use tokens::faults::Numbered;
+use writing::output;
 
-// How a run ends: after its last line, at a line that is refused, or where what is printed next does not fit.
+// What ends a run before its last line: a line that is refused, or no room for what is printed next.
 #[derive(Clone, Copy)]
-pub enum Ending {
-    Whole,
+pub enum Stop {
     Refused(LineFault),
     Full,
 }
@@ -18,18 +21,33 @@ pub enum Ending {
 pub struct Outcome {
     pub len: usize,
     pub code: u8,
-    pub ending: Ending,
+    pub ending: Result<(), Stop>,
 }
 
-impl Ending {
-    // The code of a refusal, 0 where there is none.
+impl From<Numbered<Fault>> for Stop {
+    ghost from_gives = { λ n s. s ≡ stop.Refused (in_line n.number n.fault) };
+
+    fn from(at: Numbered<Fault>) -> Stop {
+        Stop::Refused(at.into())
+    }
+}
+
+impl From<output::Full> for Stop {
+    ghost from_gives = { λ _ s. s ≡ stop.Full };
+
+    fn from(_: output::Full) -> Stop {
+        Stop::Full
+    }
+}
+
+impl Stop {
+    // The code of the refusal that ends the run.
     pub(crate) fn code(self) -> u8
-        ensures { result ≡ code self }
+        ensures { result ≡ code (Err self) }
     {
         match self {
-            Ending::Whole => 0,
-            Ending::Refused(at) => at.fault.refusal().code(),
-            Ending::Full => Refusal::Memory.code(),
+            Stop::Refused(at) => at.fault.refusal().code(),
+            Stop::Full => Refusal::Memory.code(),
         }
     }
 }

@@ -1,13 +1,12 @@
 // The lines of a file, one after another.
-ghost use Rattle.std.specs.Prelude.{◌≡◌, ℕ, ◌-◌, ◌≤◌, List, length};
-ghost use Rattle.writing.specs.Printed.{Written};
+ghost use Rattle.std.specs.Prelude.{ℕ, List};
+ghost use Rattle.writing.specs.Outputs.{room, Adds};
 ghost use Rattle.lines.specs.Pieces.{pieces};
 ghost use Rattle.sessions.specs.State.{beginning};
-ghost use Rattle.runs.specs.Run.{Runs, FileRuns, longest, ran, so_far};
+ghost use Rattle.runs.specs.Run.{Runs, FileRuns, ran, so_far};
 
-use crate::outcome::Ending;
-use crate::printing::{refuse, speak};
-use lines::pieces::find;
+use crate::outcome::Stop;
+use crate::printing::{blame, speak};
 use refusals::Refusal;
 use schemes::fault::{Fault, LineFault};
 use sessions::session::Session;
@@ -17,52 +16,43 @@ use writing::output::Output;
 // How many bytes a file may have.
 const LONGEST: usize = 32_256;
 
-// Runs the lines of a file from its first, and answers how they end, or the refusal that ends them.
-fn run_lines(file: &[u8], output: &mut Output) -> Result<Ending, LineFault>
-    requires short { length file.now ≤ longest }
-    requires within { output.old.len ≤ length output.old.area.now }
-    ensures lent { output.new.area.ghost_name ≡ output.old.area.ghost_name }
-    ensures runs { (w : List ℕ) × Written output.old.area.now output.old.len output.new.area.now output.new.len w × Runs beginning 1 (length output.old.area.now - output.old.len) (pieces 10 file.now) (so_far w (length output.new.area.now - output.new.len) result) }
+// Runs the lines of a file from its first, and answers how they end. A refusal that ends them is not printed yet.
+fn run_lines(file: &[u8], output: &mut Output) -> Result<(), Stop>
+    ensures { (w : List ℕ) × Adds output.old output.new w × Runs beginning 1 (room output.old) (pieces 10 file.now) (so_far w (room output.new) result) }
 {
     let mut session = Session::new();
-    let mut rest = file;
-    let mut line = 1;
-    while !rest.is_empty() {
-        let Some(end) = find(rest, b'\n') else {
+    for (before, text) in file.split_inclusive(|b| *b == b'\n').enumerate() {
+        let line = before + 1;
+        let [text @ .., b'\n'] = text else {
             let fault = Fault::At(0, Refusal::Line);
-            return Err(LineFault { line, fault });
+            return Err(Stop::Refused(LineFault { line, fault }));
         };
-        let said = with_number(session.step(&rest[0..end]), line)?;
-        if !speak(output, line, said) {
-            return Ok(Ending::Full);
-        }
-        rest = &rest[end + 1..];
-        line += 1;
+        let said = with_number(session.step(text), line)?;
+        speak(output, line, said)?;
     }
-    Ok(Ending::Whole)
+    Ok(())
 }
 
 // Runs a file, unless it is too long.
-fn run_file(file: &[u8], output: &mut Output) -> Result<Ending, LineFault>
-    requires { output.old.len ≤ length output.old.area.now }
-    ensures lent { output.new.area.ghost_name ≡ output.old.area.ghost_name }
-    ensures runs { (w : List ℕ) × Written output.old.area.now output.old.len output.new.area.now output.new.len w × FileRuns file.now (length output.old.area.now - output.old.len) (so_far w (length output.new.area.now - output.new.len) result) }
+fn run_file(file: &[u8], output: &mut Output) -> Result<(), Stop>
+    ensures { (w : List ℕ) × Adds output.old output.new w × FileRuns file.now (room output.old) (so_far w (room output.new) result) }
 {
     if file.len() > LONGEST {
         let fault = Fault::At(0, Refusal::FileTooLong);
-        return Err(LineFault { line: 0, fault });
+        return Err(Stop::Refused(LineFault { line: 0, fault }));
     }
     run_lines(file, output)
 }
 
 // Runs a file, and prints the refusal that ends it, if one does.
-pub(crate) fn tell(file: &[u8], output: &mut Output) -> Ending
-    requires { output.old.len ≤ length output.old.area.now }
-    ensures lent { output.new.area.ghost_name ≡ output.old.area.ghost_name }
-    ensures runs { (w : List ℕ) × Written output.old.area.now output.old.len output.new.area.now output.new.len w × FileRuns file.now (length output.old.area.now - output.old.len) (ran w result) }
+pub(crate) fn tell(file: &[u8], output: &mut Output) -> Result<(), Stop>
+    ensures { (w : List ℕ) × Adds output.old output.new w × FileRuns file.now (room output.old) (ran w result) }
 {
     match run_file(file, output) {
-        Ok(ending) => ending,
-        Err(at) => refuse(output, at),
+        Err(Stop::Refused(at)) => {
+            blame(output, at)?;
+            Err(Stop::Refused(at))
+        }
+        ending => ending,
     }
 }

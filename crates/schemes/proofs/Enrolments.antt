@@ -1,8 +1,7 @@
 -- Calls by their answers, and bases that are loaded.
-use Rattle.std.proofs.Common.{◌≡◌, ℕ, ◌*◌, ◌<◌, ◌≤◌, ◌&&◌, leb, List, Ok, Err, Result, sym, refl, ap, ◌∙◌, inl, inr}
-use Rattle.std.proofs.lemmas.Bool.{le-ltb, lt-ltb, le-leb, cases_Bool, and_parts, leb-true}
-use Rattle.refusals.specs.declared.Refusal.{Refusal}
-use Rattle.refusals.specs.declared.Refusal.TheVariants.{Counts, Limit}
+use Rattle.std.proofs.Common.{◌≡◌, ℕ, ◌*◌, ◌≤◌, List, Ok, Err, Result, sym, refl, ap, ◌∙◌, inl, inr}
+use Rattle.std.proofs.lemmas.Bool.{le-ltb, le-leb, cases_Bool}
+use Rattle.refusals.specs.declared.Refusal.TheVariants.{Counts}
 use Rattle.lives.specs.Column.{column}
 use Rattle.lives.specs.Projection.{projected, entries}
 use Rattle.lives.specs.Counts.{listed, straight, later}
@@ -10,8 +9,17 @@ use Rattle.lives.specs.Tables.{Fair, fairly}
 use Rattle.lives.proofs.Fairness.{fairly_from, fair_from_fairly}
 use Rattle.cases.specs.Book.{Book, Call, Answer, judged, step, done, enrol}
 use Rattle.cases.specs.Book as book
-use Rattle.schemes.specs.Enrolment.{enrolled, adjusted, call, by_answer, by_step, by_table, answer_of, after, at_begin}
-use Rattle.schemes.specs.Faults.{of_refusal}
+use Rattle.schemes.specs.Enrolment.{enrolled, adjusted, call, by_answer, by_step, by_table, Leaves}
+
+-- what is answered
+abbrev pub answer_of : {X E : Type 0} → Result X E → Result (Unit {0}) E
+answer_of (Ok x) = Ok tt
+answer_of (Err e) = Err e
+
+-- what is left: the new, or the old where it is refused
+abbrev pub after : {X E : Type 0} → Result X E → X → X
+after (Ok x) old = x
+after (Err e) old = old
 
 answer_is : (a : Answer) (b : Book) → answer_of (by_answer a b) ≡ a
 answer_is (Ok u) b = refl
@@ -27,9 +35,6 @@ call_answer c b = sym (answer_is (judged c b) (done c b))
 
 pub call-after : (c : Call) (b : Book) → step c b ≡ after (call c b) b
 call-after c b = sym (after_is (judged c b) (done c b) b)
-
-pub enrolled_not : (l : ℕ → ℕ) (seat aged factor : ℕ) (b : Book) → 10000 < factor → enrolled (Ok l) seat aged factor b ≡ Err Limit
-enrolled_not l seat aged factor b h = rw (lt-ltb 10000 factor h) refl
 
 pub enrolled_is : (l : ℕ → ℕ) (seat aged factor : ℕ) (b : Book) → factor ≤ 10000 → call (enrol seat (adjusted l aged factor)) b ≡ enrolled (Ok l) seat aged factor b
 enrolled_is l seat aged factor b h = sym (rw (le-ltb 10000 factor h) refl)
@@ -48,18 +53,9 @@ pub by_step_is : (w m years step : ℕ) → w ≤ 120 → m * w ≤ 1000000 → 
 by_step_is w m years step h g y s =
     (λ i. Ok (straight (y i) (s i))) ∙ sym (rw (le-leb w 120 h, le-leb (m * w) 1000000 g) refl)
 
-pub by_step_not : (w m : ℕ) → (w ≤ 120 → m * w ≤ 1000000 → ⊥) → by_step w m ≡ Err Limit
-by_step_not w m n =
-    elim (cases_Bool (leb w 120 && leb (m * w) 1000000)) [
-      | inl e ↦ let p = and_parts (leb w 120) (leb (m * w) 1000000) e in absurd (n (leb-true w 120 p.0) (leb-true (m * w) 1000000 p.1))
-      | inr e ↦ rw e refl
-    ]
-
--- a call that answers, and one that refuses its line
-pub begins : {X : Type 0} (x : Result X Refusal) (u : Unit {0}) (new old : X) → Ok u ≡ answer_of x → new ≡ after x old → at_begin x ≡ Ok new
-begins (Ok y) u new old a e = ap (λ z. Ok z) (sym e)
-begins (Err f) u new old a e = cc
-
-pub begins_not : {X : Type 0} (x : Result X Refusal) (e : Refusal) (new old : X) → Err e ≡ answer_of x → new ≡ after x old → (at_begin x ≡ Err (of_refusal e)) × (new ≡ old)
-begins_not (Ok y) e new old a n = (cc, cc)
-begins_not (Err f) e new old a n = (cc, n)
+-- what is answered and left, in one
+pub leaves_from : {X E : Type 0} (x : Result X E) (r : Result (Unit {0}) E) (new old : X) → r ≡ answer_of x → new ≡ after x old → Leaves x r new old
+leaves_from (Ok y) (Ok u) new old a e = ap (λ z. Ok z) (sym e)
+leaves_from (Ok y) (Err why) new old a e = absurd cc
+leaves_from (Err f) (Ok u) new old a e = absurd cc
+leaves_from (Err f) (Err why) new old a e = (cc, e)

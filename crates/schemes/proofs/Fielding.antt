@@ -1,28 +1,80 @@
 -- The fields of a line, one on, and the numbers of a line that are kept.
-use Rattle.std.proofs.Common.{◌≡◌, ℕ, ◌+◌, ◌-◌, ◌<◌, Bool, false, cond, eqb, List, [], ◌∷◌, ◌++◌, length, get_or, take, drop, set, Ok, Err, sym, ap, ◌∙◌, inl, inr, add_assoc, arith}
-use Rattle.std.proofs.lemmas.Bool.{cond-true, cond-false, cond_both, cases_lt, lt-ltb}
-use Rattle.std.proofs.lemmas.List.{get_or-take, take_all, length-append, length-drop, length-take-le, take_rest, drop-drop}
+use Rattle.std.proofs.Common.{◌≡◌, ℕ, ◌+◌, ◌-◌, ◌<◌, Bool, false, cond, eqb, leb, List, [], ◌∷◌, ◌++◌, length, get_or, take, drop, set, Ok, Err, Result, OnOk, OnErr, IsOk, sym, refl, ap, ◌∙◌, inl, inr, arith}
+use Rattle.std.proofs.lemmas.Bool.{ne_eqb, cond-true, cond-false, cond_both, cases_lt, lt-ltb, lt-leb, and_left}
+use Rattle.std.proofs.lemmas.List.{get_or-take, take_all, take-append-le, length-take, length_push, length-append, length-drop, length-take-le, take_rest, drop-drop}
+use Rattle.arrayvec.specs.ArrayVec.{ArrayVec}
 use Rattle.cases.specs.Book.{Book}
 use Rattle.lines.specs.declared.kind.Kind.{Kind}
-use Rattle.lines.specs.declared.kind.Kind.TheVariants.{Table, Life, Benefit}
+use Rattle.lines.specs.declared.kind.Kind.TheVariants.{Table, Life, Withdraw, Rate, Start, Fail, YearEnd, Close, Benefit}
 use Rattle.lines.specs.Pieces.{pieces, onto, fields}
 use Rattle.refusals.specs.declared.Refusal.TheVariants.{Line, Counts}
-use Rattle.schemes.specs.declared.shape.Shape.TheVariants.{Amount}
+use Rattle.schemes.specs.declared.shape.Shape.TheVariants.{Amount, UpTo}
 use Rattle.schemes.specs.declared.fault.Fault.TheVariants.{At}
 use Rattle.schemes.specs.Most.{most, year_count}
-use Rattle.schemes.specs.Syntax.{counted, shape, read, reads, by_read, first_field, given, amount, clauses_text}
+use Rattle.schemes.specs.Syntax.{counted, shape, life_shape, read, reads, by_read, first_field, given, amount, clauses_text}
+use Rattle.schemes.specs.Places.{placed}
+use Rattle.schemes.specs.declared.fault.Fault.{Fault}
 use Rattle.schemes.specs.Enrolment.{enrolled, enrolled_by, basis, joined, at_begin}
 use Rattle.schemes.specs.Counts.{put, appended}
-use Rattle.lives.specs.Tables.{fairly}
-use Rattle.lives.proofs.Fairness.{too_long}
+use Rattle.lives.specs.Tables.{falls, fairly}
 
-pub reads_more : (k : Kind) (sofar : List ℕ) (place : ℕ) (f : List ℕ) (fs : List (List ℕ)) (n : ℕ) → read (shape k (length sofar) (get_or sofar 1 0)) place f ≡ Ok n → reads k sofar place (f ∷ fs) ≡ reads k (sofar ++ (n ∷ [])) (place + (length f + 1)) fs
-reads_more k sofar place f fs n e =
-    ap (λ r. by_read r (λ m. reads k (sofar ++ (m ∷ [])) (place + length f + 1) fs)) e
-    ∙ ap (λ p. reads k (sofar ++ (n ∷ [])) p fs) (add_assoc place (length f) 1)
+-- the fields with their places, read after those that gave the numbers so far
+abbrev pub reads_at : Kind → List ℕ → List (ℕ × List ℕ) → Result (List ℕ) Fault
+reads_at k sofar [] = Ok sofar
+reads_at k sofar (x ∷ xs) = by_read (read (shape k (length sofar) (get_or sofar 1 0)) x.0 x.1) (λ n. reads_at k (sofar ++ (n ∷ [])) xs)
+
+by_same : (x : Result ℕ Fault) (f g : ℕ → Result (List ℕ) Fault) → ((n : ℕ) → f n ≡ g n) → by_read x f ≡ by_read x g
+by_same (Ok n) f g e = e n
+by_same (Err why) f g e = refl
+
+pub reads_placed : (k : Kind) (sofar : List ℕ) (place : ℕ) (fs : List (List ℕ)) → reads_at k sofar (placed place fs) ≡ reads k sofar place fs
+reads_placed k sofar place [] = refl
+reads_placed k sofar place (f ∷ fs) = by_same (read (shape k (length sofar) (get_or sofar 1 0)) place f) _ _ (λ n. reads_placed k (sofar ++ (n ∷ [])) (place + length f + 1) fs)
+
+pub reads_more : (k : Kind) (sofar : List ℕ) (x : ℕ × List ℕ) (xs : List (ℕ × List ℕ)) (n : ℕ) → read (shape k (length sofar) (get_or sofar 1 0)) x.0 x.1 ≡ Ok n → reads_at k sofar (x ∷ xs) ≡ reads_at k (sofar ++ (n ∷ [])) xs
+reads_more k sofar x xs n e = ap (λ r. by_read r (λ m. reads_at k (sofar ++ (m ∷ [])) xs)) e
+
+pub reads_not : (k : Kind) (sofar : List ℕ) (x : ℕ × List ℕ) (xs : List (ℕ × List ℕ)) (why : Fault) → read (shape k (length sofar) (get_or sofar 1 0)) x.0 x.1 ≡ Err why → reads_at k sofar (x ∷ xs) ≡ Err why
+reads_not k sofar x xs why e = ap (λ r. by_read r (λ m. reads_at k (sofar ++ (m ∷ [])) xs)) e
+
+-- how a field is read after many others does not go by their number
+life_late : (n b : ℕ) → 4 < n → life_shape n b ≡ UpTo 1000000
+life_late n b h = rw (ne_eqb n 0 (omega arith), ne_eqb n 1 (omega arith), ne_eqb n 2 (omega arith), ne_eqb n 3 (omega arith), ne_eqb n 4 (omega arith)) refl
+
+late : (k : Kind) (m n b c : ℕ) → 4 < m → 4 < n → shape k m b ≡ shape k n c
+late Table m n b c h g = rw (ne_eqb m 0 (omega arith), ne_eqb n 0 (omega arith)) refl
+late Life m n b c h g = life_late m b h ∙ sym (life_late n c g)
+late Withdraw m n b c h g = refl
+late Rate m n b c h g = refl
+late Start m n b c h g = refl
+late Fail m n b c h g = refl
+late YearEnd m n b c h g = refl
+late Close m n b c h g = refl
+late Benefit m n b c h g = refl
+
+-- the numbers that are kept say how the next field is read
+pub shape_kept : (k : Kind) (ns : List ℕ) → shape k (length (take most ns)) (get_or (take most ns) 1 0) ≡ shape k (length ns) (get_or ns 1 0)
+shape_kept k ns =
+    elim (cases_lt (length ns) (most + 1)) [
+      | inl h ↦ ap (λ ms. shape k (length ms) (get_or ms 1 0)) (take_all most ns (omega arith))
+      | inr h ↦ late k (length (take most ns)) (length ns) (get_or (take most ns) 1 0) (get_or ns 1 0) (omega (arith, length-take-le most ns (omega arith))) (omega arith)
+    ]
+
+-- pushing onto the first most is pushing, as far as the first most go
+pushed_in : (all : List ℕ) (n : ℕ) → length (take most all) < most → take most all ++ (n ∷ []) ≡ take most (all ++ (n ∷ []))
+pushed_in all n h =
+    let short : length all < most = omega (arith, length-take most all) in
+    ap (λ ms. ms ++ (n ∷ [])) (take_all most all (omega arith)) ∙ sym (take_all most (all ++ (n ∷ [])) (omega (arith, length_push all n)))
+
+pushed_past : (all : List ℕ) (n : ℕ) → length (take most all) ≡ most → take most all ≡ take most (all ++ (n ∷ []))
+pushed_past all n h = sym (take-append-le most all (n ∷ []) (omega (arith, length-take most all)))
+
+pub pushed : {U E : Type 0} (all : List ℕ) (n : ℕ) (old new : ArrayVec ℕ) (r : Result U E) → old.items ≡ take most all → OnOk r (new.items ≡ old.items ++ (n ∷ [])) → OnErr r (new ≡ old) → (IsOk r → length old.items < most) → OnErr r (length old.items ≡ most) → new.items ≡ take most (all ++ (n ∷ []))
+pushed all n old new (Ok u) e more same room full = more ∙ ap (λ xs. xs ++ (n ∷ [])) e ∙ pushed_in all n (omega (arith, room refl, ap length e))
+pushed all n old new (Err why) e more same room full = ap (λ v. v.items) same ∙ e ∙ pushed_past all n (omega (arith, full, ap length e))
 
 long : (xs ys : List ℕ) → year_count < length ys → fairly (xs ++ ys) ≡ false
-long xs ys h = too_long (xs ++ ys) (omega (arith, length-append xs ys))
+long xs ys h = and_left (leb (length (xs ++ ys)) year_count) (falls 1000000 (xs ++ ys)) (lt-leb (length (xs ++ ys)) year_count (omega (arith, length-append xs ys)))
 
 -- the first numbers decide what a table's line does: with more, the table has too many counts
 pub put-take : (ns : List ℕ) (ts : List (List ℕ)) → put (get_or (take most ns) 0 0) (get_or ts (get_or (take most ns) 0 0) [] ++ drop 1 (take most ns)) ts ≡ put (get_or ns 0 0) (get_or ts (get_or ns 0 0) [] ++ drop 1 ns) ts

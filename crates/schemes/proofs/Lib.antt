@@ -1,5 +1,5 @@
 -- The lemmas, by subject.
-pub mod Numbering
+pub mod Counted
 pub mod Tabling
 pub mod Fielding
 pub mod Giving

@@ -56,16 +56,6 @@ at_begin (Err e) = Err (At 0 e)
 abbrev pub joined : List ℕ → List (List ℕ) → Book → Result Book Fault
 joined rest tables b = by_read (given kind.Life rest) (λ ns. at_begin (enrolled_by ns tables b))
 
--- what is answered, and what is left
-abbrev pub answer_of : {X E : Type 0} → Result X E → Result (Unit {0}) E
-answer_of (Ok x) = Ok tt
-answer_of (Err e) = Err e
-
--- what is left: the new, or the old where it is refused
-abbrev pub after : {X E : Type 0} → Result X E → X → X
-after (Ok x) old = x
-after (Err e) old = old
-
 -- what was asked is done, or it is refused and nothing is changed
 abbrev pub Leaves : {X E : Type 0} → Result X E → Result (Unit {0}) E → X → X → Type 0
 Leaves asked (Ok u) new old = asked ≡ Ok new

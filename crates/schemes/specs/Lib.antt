@@ -2,5 +2,7 @@
 pub mod Faults
 pub mod Most
 pub mod Syntax
+pub mod Bases
+pub mod Places
 pub mod Enrolment
 pub mod Counts

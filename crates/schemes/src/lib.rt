@@ -1,11 +1,11 @@
 // The lines of a scheme file: their faults, their fields, the tables, and the lives that they enrol.
 #![tactic(auto)]
 
+mod basis;
 pub mod enrolment;
 pub mod fault;
-pub mod numbers;
+mod fields;
 pub mod reader;
 pub mod reading;
 pub mod shape;
-pub mod table;
 pub mod tables;

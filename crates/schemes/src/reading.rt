@@ -5,12 +5,20 @@ ghost use Rattle.schemes.specs.Most.{most};
 ghost use Rattle.schemes.specs.Syntax.{counted, reads, given, one, none, amount, clauses_place, clauses_text, ReadsStand};
 
 use crate::fault::Fault;
-use crate::numbers::Numbers;
+use crate::fields::Fields;
 use crate::reader::shape_of;
 use crate::shape::Shape;
+use arrayvec::ArrayVec;
 use lines::fields::cut;
 use lines::kind::Kind;
+use lives::life::YEARS;
 use refusals::Refusal;
+
+// A table's number, and one more count than a table holds.
+const MOST: usize = YEARS + 2;
+
+// The numbers of a line's fields, as many as a line can use.
+pub(crate) type Numbers = ArrayVec<u32, MOST>;
 
 // The amount of a benefit's line, the text of its clauses, and where in the line that begins.
 #[derive(Clone, Copy)]
@@ -18,20 +26,6 @@ pub struct Priced<'a> {
     pub amount: u32,
     pub place: usize,
     pub clauses: &'a [u8],
-}
-
-// How many fields there are.
-fn count(rest: &[u8]) -> usize
-    ensures { result ≡ length (fields rest.now) }
-{
-    let mut left = rest;
-    let mut n = 0;
-    while !left.is_empty() {
-        let (_, after) = cut(left);
-        left = after;
-        n += 1;
-    }
-    n
 }
 
 // Whether a line of the kind has so many fields.
@@ -48,28 +42,21 @@ fn complete(kind: Kind, count: usize) -> bool
 
 // The numbers of the fields, or why the first that is refused is.
 fn read_all(kind: Kind, rest: &[u8]) -> Result<Numbers, Fault>
-    ensures { MatchResult result (λ ns. (all : List ℕ) × (reads kind [] 2 (fields rest.now) ≡ Ok all) × (take ns.len ns.items ≡ take most all)) (λ e. reads kind [] 2 (fields rest.now) ≡ Err e) }
+    ensures { MatchResult result (λ ns. (all : List ℕ) × (reads kind [] 2 (fields rest.now) ≡ Ok all) × (ns.items ≡ take most all)) (λ e. reads kind [] 2 (fields rest.now) ≡ Err e) }
 {
-    let mut left = rest;
-    let mut place = 2;
-    let mut taken = 0;
     let mut numbers = Numbers::new();
-    while !left.is_empty() {
-        let (field, after) = cut(left);
-        let n = shape_of(kind, taken, numbers.at(1)).read(place, field)?;
-        numbers.push(n);
-        left = after;
-        place += field.len() + 1;
-        taken += 1;
+    for (place, field) in Fields::of(rest) {
+        let n = shape_of(kind, &numbers).read(place, field)?;
+        let _ = numbers.try_push(n);
     }
     Ok(numbers)
 }
 
 // The numbers of a line that has as many fields as its kind.
 pub(crate) fn numbers(kind: Kind, rest: &[u8]) -> Result<Numbers, Fault>
-    ensures { MatchResult result (λ ns. (all : List ℕ) × (given kind rest.now ≡ Ok all) × (take ns.len ns.items ≡ take most all)) (λ e. given kind rest.now ≡ Err e) }
+    ensures { MatchResult result (λ ns. (all : List ℕ) × (given kind rest.now ≡ Ok all) × (ns.items ≡ take most all)) (λ e. given kind rest.now ≡ Err e) }
 {
-    if !complete(kind, count(rest)) {
+    if !complete(kind, Fields::of(rest).count()) {
         return Err(Fault::At(0, Refusal::Line));
     }
     read_all(kind, rest)
@@ -80,7 +67,7 @@ pub fn only_number(kind: Kind, rest: &[u8]) -> Result<u32, Fault>
     ensures { result ≡ one kind rest.now }
 {
     let numbers = numbers(kind, rest)?;
-    Ok(numbers.at(0))
+    Ok(numbers.first().copied().unwrap_or(0))
 }
 
 // Whether a line that has no fields has none.

@@ -1,5 +1,6 @@
 -- A seat's record, the seats of a case, and what is asked of them.
 use Rattle.std.specs.Prelude.{◌≡◌, ℕ, ◌+◌, ◌*◌, ◌<◌, ◌≤◌, Bool, true, false, cond, List, [], ◌∷◌, length, replicate, ◌==◌, slice_index, slice_index_or}
+use Rattle.std.specs.List.{list_any, count_by}
 use Rattle.patterns.specs.Seats.{seats}
 use Rattle.seats.specs.declared.seat.Mark.{Mark}
 use Rattle.seats.specs.declared.seat.Mark.TheVariants.{Empty, Living, Failed}
@@ -65,13 +66,11 @@ ending t s = cond (is_living s.mark) (slice_index s.counts t == 0) false
 
 -- does any seat pass a test
 abbrev pub any_of : (Seat → Bool) → List Seat → Bool
-any_of p [] = false
-any_of p (s ∷ ss) = cond (p s) true (any_of p ss)
+any_of = list_any
 
 -- how many seats have failed
 abbrev pub failures : List Seat → ℕ
-failures [] = 0
-failures (s ∷ ss) = cond (is_failed s.mark) 1 0 + failures ss
+failures = count_by (λ s. is_failed s.mark)
 
 -- what is counted of each seat, multiplied
 abbrev pub product : (Seat → ℕ) → List Seat → ℕ

@@ -1,7 +1,8 @@
 // The seats of a case in a plain table. A change of one seat leaves every other seat's record as it is.
 ghost use Rattle.std.specs.Prelude.{◌≡◌, ℕ, ◌<◌, ◌≤◌, length, if◌then◌else◌, slice_index, slice_set};
-ghost use Rattle.seats.specs.Seats.{Seated, vacant, vacancies, living, failed, seat_at, count_at, first, product, is_failed, lives, ending, any_of, failures, Columns, Within};
+ghost use Rattle.seats.specs.Seats.{Seated, vacant, vacancies, living, failed, seat_at, first, product, is_failed, lives, ending, any_of, failures, Columns, Within};
 
+use crate::number::SeatNumber;
 use crate::seat::{Mark, Seat};
 use patterns::SEATS;
 
@@ -27,45 +28,29 @@ impl Seat {
     }
 
     // The count of a year, 0 past the last.
-    fn count(&self, year: u32) -> u32
-        requires { length self.now.counts ≡ 121 }
+    pub fn count(&self, year: usize) -> u32
         ensures { result ≡ slice_index self.now.counts year }
     {
-        if year > 120 {
-            0
-        } else {
-            self.counts[year as usize]
-        }
+        self.counts.get(year).copied().unwrap_or(0)
     }
 
     fn lives(&self) -> bool
         ensures { result ≡ lives self.now }
     {
-        match self.mark {
-            Mark::Living => true,
-            Mark::Empty | Mark::Failed => false,
-        }
+        self.mark == Mark::Living
     }
 
     // Whether it lives and its count of a year is 0.
     fn ends_by(&self, year: u32) -> bool
-        requires { length self.now.counts ≡ 121 }
         ensures { result ≡ ending year self.now }
     {
-        match self.mark {
-            Mark::Living => self.count(year) == 0,
-            Mark::Empty | Mark::Failed => false,
-        }
+        self.lives() && self.count(year as usize) == 0
     }
 
-    // 1 of a failed seat, else 0.
-    fn failures(&self) -> usize
-        ensures { result ≡ (if is_failed self.now.mark then 1 else 0) }
+    fn has_failed(&self) -> bool
+        ensures { result ≡ is_failed self.now.mark }
     {
-        match self.mark {
-            Mark::Failed => 1,
-            Mark::Empty | Mark::Living => 0,
-        }
+        self.mark == Mark::Failed
     }
 }
 
@@ -78,44 +63,31 @@ impl SeatTable {
         }
     }
 
-    pub fn mark(&self, seat: usize) -> Mark
-        requires { Seated seat }
-        ensures { result ≡ (seat_at self.now.seats seat).mark }
+    // The record of each seat.
+    pub fn records(&self) -> &[Seat]
+        ensures { result.now ≡ self.now.seats }
     {
-        self.seats[seat].mark
+        &self.seats
     }
 
-    // A seat's count of a year, 0 past the last.
-    pub fn count(&self, seat: usize, year: u32) -> u32
-        requires seat { Seated seat }
-        requires columns { Columns self.now.seats }
-        ensures { result ≡ count_at self.now.seats seat year }
+    pub fn mark(&self, seat: SeatNumber) -> Mark
+        ensures { result ≡ (seat_at self.now.seats seat.index).mark }
     {
-        self.seats[seat].count(year)
+        self.seats[seat.index].mark
     }
 
     // Whether any seat is living.
     pub fn any_living(&self) -> bool
-        requires { Columns self.now.seats }
         ensures { result ≡ any_of lives self.now.seats }
     {
-        let mut living = false;
-        for seat in &self.seats {
-            living |= seat.lives();
-        }
-        living
+        self.seats.iter().any(|seat| seat.lives())
     }
 
     // Whether any living seat's count of a year is 0.
     pub fn any_ending(&self, year: u32) -> bool
-        requires { Columns self.now.seats }
         ensures { result ≡ any_of (ending year) self.now.seats }
     {
-        let mut ending = false;
-        for seat in &self.seats {
-            ending |= seat.ends_by(year);
-        }
-        ending
+        self.seats.iter().any(|seat| seat.ends_by(year))
     }
 
     // The counts of year 0 of the occupied seats, multiplied.
@@ -133,41 +105,33 @@ impl SeatTable {
 
     // How many seats have failed.
     pub fn failures(&self) -> usize
-        requires { Columns self.now.seats }
         ensures { result ≡ failures self.now.seats }
     {
-        let mut count = 0;
-        for seat in &self.seats {
-            count += seat.failures();
-        }
-        count
+        self.seats.iter().filter(|seat| seat.has_failed()).count()
     }
 
     // A life of these counts takes the seat.
-    pub fn seat(&mut self, seat: usize, counts: [u32; 121])
-        requires { Seated seat }
-        ensures { self.new.seats ≡ slice_set self.old.seats seat (living counts) }
+    pub fn seat(&mut self, seat: SeatNumber, counts: [u32; 121])
+        ensures { self.new.seats ≡ slice_set self.old.seats seat.index (living counts) }
     {
-        self.seats[seat] = Seat {
+        self.seats[seat.index] = Seat {
             counts,
             mark: Mark::Living,
         };
     }
 
     // The seat is empty again, its counts 0.
-    pub fn clear(&mut self, seat: usize)
-        requires { Seated seat }
-        ensures { self.new.seats ≡ slice_set self.old.seats seat vacant }
+    pub fn clear(&mut self, seat: SeatNumber)
+        ensures { self.new.seats ≡ slice_set self.old.seats seat.index vacant }
     {
-        self.seats[seat] = VACANT;
+        self.seats[seat.index] = VACANT;
     }
 
     // The seat is marked failed, and keeps its counts.
-    pub fn fail(&mut self, seat: usize)
-        requires { Seated seat }
-        ensures { self.new.seats ≡ slice_set self.old.seats seat (failed (seat_at self.old.seats seat).counts) }
+    pub fn fail(&mut self, seat: SeatNumber)
+        ensures { self.new.seats ≡ slice_set self.old.seats seat.index (failed (seat_at self.old.seats seat.index).counts) }
     {
-        let record = &mut self.seats[seat];
+        let record = &mut self.seats[seat.index];
         record.mark = Mark::Failed;
     }
 }

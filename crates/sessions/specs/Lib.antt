@@ -1,3 +1,4 @@
 -- The definitions that the contracts cite.
+pub mod Phases
 pub mod State
 pub mod Machine

@@ -7,6 +7,7 @@ use Rattle.benefits.specs.Reads.{BenefitRead}
 use Rattle.cases.specs.Book.{Phase, enrolment, in_force, Book, beginning, start, withdraw, fail, year_end}
 use Rattle.annuities.specs.declared.valuation.Valuation.{Valuation}
 use Rattle.annuities.specs.Values.{valued}
+use Rattle.routes.specs.declared.route.Route.TheVariants.{Patterns}
 use Rattle.lines.specs.declared.kind.Kind.{Kind}
 use Rattle.lines.specs.declared.kind.Kind.TheVariants as kind
 use Rattle.lines.specs.Kinds.{kind_of, after_kind}
@@ -90,7 +91,7 @@ closed rest = by_read (none kind.Close rest) (λ _. Ok beginning)
 -- the value of the benefit that was read, or why it has none
 abbrev pub by_benefit : ℕ → Result Benefit BenefitFault → Book → ℕ → Result Valuation Fault
 by_benefit place (Err e) b rate = Err (of_benefit place e)
-by_benefit place (Ok x) b rate = at_begin (valued b x rate)
+by_benefit place (Ok x) b rate = at_begin (valued b x rate Patterns)
 
 -- how many words and answers a reader keeps
 abbrev pub listed : ℕ

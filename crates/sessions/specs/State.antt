@@ -2,17 +2,10 @@
 use Rattle.std.specs.Prelude.{ℕ, List, [], replicate}
 use Rattle.cases.specs.Book.{Book}
 use Rattle.cases.specs.Book as cases
-use Rattle.cases.specs.Views.{enrolling_book, in_force_book}
 use Rattle.schemes.specs.Most.{table_count}
 use Rattle.schemes.specs.Counts.{lists}
-use Rattle.sessions.specs.declared.session.Phase.{Phase}
-use Rattle.sessions.specs.declared.session.Phase.TheVariants.{Enrolling, InForce}
+use Rattle.sessions.specs.Phases.{book_of}
 use Rattle.sessions.specs.declared.session.Session.{Session}
-
--- the book of the case that the phase speaks of
-abbrev pub book_of : Phase → Book → Book → Book
-book_of Enrolling enrolling inforce = enrolling
-book_of InForce enrolling inforce = inforce
 
 -- the book, the counts of each table, and the rate
 pub record State : Type 0 where
@@ -22,7 +15,7 @@ pub record State : Type 0 where
 
 -- what a session holds
 abbrev pub state_of : Session → State
-state_of s = record { book = book_of s.phase (enrolling_book s.enrolling) (in_force_book s.inforce); tables = lists s.tables.tables; rate = s.rate }
+state_of s = record { book = book_of s.phase; tables = lists s.tables.tables; rate = s.rate }
 
 -- a session before its first line
 abbrev pub beginning : State

@@ -1,5 +1,5 @@
 // What a session holds between two lines.
-ghost use Rattle.std.specs.Prelude.{IsNone};
+ghost use Rattle.sessions.specs.Phases.{Plain};
 
 use cases::enrolling::Enrolling;
 use cases::inforce::InForce;
@@ -8,20 +8,18 @@ use schemes::tables::Tables;
 mod calls;
 mod machine;
 
-// The phase of the file: which of the two cases its lines speak of.
-#[derive(Clone, Copy)]
+// The phase of the file, with the case that its lines speak of.
+#[derive(Drop)]
 pub enum Phase {
-    Enrolling,
-    InForce,
+    Enrolling(Enrolling),
+    InForce(InForce),
 }
 
 // No line supposes anything.
 #[derive(Drop)]
 pub struct Session {
     phase: Phase,
-    enrolling: Enrolling,
-    inforce: InForce,
     tables: Tables,
     rate: u32,
-    ghost plain: { IsNone inforce.supposed },
+    ghost plain: { Plain phase },
 }

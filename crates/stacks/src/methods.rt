@@ -1,5 +1,5 @@
 // What a stack does: push, pop, and a look at the top.
-ghost use Rattle.std.specs.Prelude.{◌≡◌, min, [], ◌∷◌, length, Some, None, MatchResult};
+ghost use Rattle.std.specs.Prelude.{◌≡◌, [], ◌∷◌, length, Some, None, MatchResult};
 ghost use Rattle.stacks.specs.Items.{items, room, rest, head};
 
 use crate::{Full, Stack};
@@ -13,25 +13,16 @@ impl<'a, T: Copy> Stack<'a, T> {
         Stack { slots, len: 0 }
     }
 
-    // How many items there are.
-    fn count(&self) -> usize
-        ensures count { result ≡ min self.now.len (room self.now) }
-        ensures items { result ≡ length (items self.now) }
-    {
-        self.len.min(self.slots.len())
-    }
-
     // Puts an item on top, where there is room.
     pub fn push(&mut self, x: T) -> Result<(), Full>
         ensures room { room self.new ≡ room self.old }
         ensures cases { MatchResult result (λ _. items self.new ≡ x ∷ items self.old) (λ _. (items self.new ≡ items self.old) × (length (items self.old) ≡ room self.old)) }
     {
-        let at = self.count();
-        if at >= self.slots.len() {
+        if self.len == self.slots.len() {
             return Err(Full);
         }
-        self.slots[at] = x;
-        self.len = at + 1;
+        self.slots[self.len] = x;
+        self.len += 1;
         Ok(())
     }
 
@@ -41,23 +32,15 @@ impl<'a, T: Copy> Stack<'a, T> {
         ensures value { result ≡ head (items self.old) }
         ensures after { items self.new ≡ rest (items self.old) }
     {
-        let count = self.count();
-        if count == 0 {
-            return None;
-        }
-        self.len = count - 1;
-        Some(self.slots[self.len])
+        let below = self.len.checked_sub(1)?;
+        self.len = below;
+        Some(self.slots[below])
     }
 
     // The item on top.
     pub fn top(&self) -> Option<T>
         ensures { result ≡ head (items self.now) }
     {
-        let count = self.count();
-        if count == 0 {
-            return None;
-        }
-        let slots = &*self.slots;
-        Some(slots[count - 1])
+        self.slots[..self.len].last().copied()
     }
 }

@@ -13,15 +13,17 @@ pub enum Class {
     Digit,
 }
 
-// Whether a byte is of a class.
-pub(crate) fn is_in(b: u8, class: Class) -> bool
-    ensures { result ≡ member class b }
-{
-    match class {
-        Class::Space => b == b' ',
-        Class::Lower => b'a' <= b && b <= b'z',
-        Class::Seat => b'A' <= b && b < b'A' + SEATS as u8,
-        Class::Digit => b'0' <= b && b <= b'9',
+impl Class {
+    // Whether a byte is of the class.
+    pub(crate) fn has(self, b: u8) -> bool
+        ensures { result ≡ member self b }
+    {
+        match self {
+            Class::Space => b == b' ',
+            Class::Lower => b.is_ascii_lowercase(),
+            Class::Seat => (b'A'..b'A' + SEATS as u8).contains(&b),
+            Class::Digit => b.is_ascii_digit(),
+        }
     }
 }
 
@@ -31,9 +33,5 @@ pub fn run_end(text: &[u8], from: usize, class: Class) -> usize
     ensures end { result ≡ from + prefix_len (member class) (drop from text.now) }
     ensures within { result ≤ length text.now }
 {
-    let mut n = from;
-    while n < text.len() && is_in(text[n], class) {
-        n += 1;
-    }
-    n
+    from + text[from..].iter().take_while(|b| class.has(**b)).count()
 }

@@ -21,8 +21,5 @@ pub struct Numbered<F> {
 pub fn with_number<T, F>(r: Result<T, F>, number: usize) -> Result<T, Numbered<F>>
     ensures { elim r [ Ok x ↦ result ≡ Ok x | Err e ↦ result ≡ Err (record { number = number; fault = e }) ] }
 {
-    match r {
-        Ok(x) => Ok(x),
-        Err(fault) => Err(Numbered { number, fault }),
-    }
+    r.map_err(|fault| Numbered { number, fault })
 }

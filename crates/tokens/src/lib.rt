@@ -8,8 +8,9 @@ mod scan;
 mod words;
 
 // What a token is.
-#[derive(Clone, Copy)]
+#[derive(Clone, Copy, Default)]
 pub enum Code {
+    #[default]
     Or,
     And,
     Not,
@@ -27,7 +28,7 @@ pub enum Code {
 }
 
 // A token, and the place of its first byte in the text.
-#[derive(Clone, Copy)]
+#[derive(Clone, Copy, Default)]
 pub struct Token {
     pub code: Code,
     pub place: usize,

@@ -2,9 +2,9 @@
 ghost use Rattle.std.specs.Prelude.{◌≡◌, ℕ, ◌+◌, ◌<◌, ◌≤◌, true, length, slice_index};
 ghost use Rattle.tokens.specs.declared.classes.Class.TheVariants.{Seat};
 ghost use Rattle.tokens.specs.Classes.{member};
-ghost use Rattle.tokens.specs.Cut.{set_of, bit_of, mark_of, word_at, seats_at, scan_at, Within};
+ghost use Rattle.tokens.specs.Cut.{set_of, bit_of, mark_of, or_else, token, refused, scan_at, Within};
 
-use crate::classes::{Class, is_in, run_end};
+use crate::classes::{Class, run_end};
 use crate::faults::TokenFault;
 use crate::words::word;
 use crate::{Code, Token};
@@ -56,45 +56,18 @@ fn mark(b: u8) -> Option<Code>
     }
 }
 
-// The word at a place.
-fn word_at(text: &[u8], place: usize) -> Result<Option<Scanned>, TokenFault>
-    requires { place ≤ length text.now }
-    ensures value { result ≡ word_at text.now place }
-    ensures within { Within result (length text.now) }
+// The token from a place to an end, or the refusal where there is none.
+fn token(
+    code: Option<Code>,
+    place: usize,
+    end: usize,
+    refusal: Refusal,
+) -> Result<Option<Scanned>, TokenFault>
+    ensures { result ≡ or_else code (token place end) (refused refusal place) }
 {
-    let end = run_end(text, place, Class::Lower);
-    match word(&text[place..end]) {
-        Some(code) => Ok(Some(Scanned {
-            token: Token { code, place },
-            end,
-        })),
-        None => Err(TokenFault {
-            refusal: Refusal::UnknownWord,
-            place,
-        }),
-    }
-}
-
-// The letters at a place.
-fn seats_at(text: &[u8], place: usize) -> Result<Option<Scanned>, TokenFault>
-    requires { place ≤ length text.now }
-    ensures value { result ≡ seats_at text.now place }
-    ensures within { Within result (length text.now) }
-{
-    let end = run_end(text, place, Class::Seat);
-    match seat_set(&text[place..end]) {
-        Some(set) => Ok(Some(Scanned {
-            token: Token {
-                code: Code::Letters(set),
-                place,
-            },
-            end,
-        })),
-        None => Err(TokenFault {
-            refusal: Refusal::NotRising,
-            place,
-        }),
-    }
+    let code = code.ok_or(TokenFault { refusal, place })?;
+    let token = Token { code, place };
+    Ok(Some(Scanned { token, end }))
 }
 
 // The first token from a place on, or none at the text's end.
@@ -104,24 +77,17 @@ pub(crate) fn scan(text: &[u8], from: usize) -> Result<Option<Scanned>, TokenFau
     ensures within { Within result (length text.now) }
 {
     let place = run_end(text, from, Class::Space);
-    if place >= text.len() {
+    let Some(b) = text.get(place).copied() else {
         return Ok(None);
-    }
-    let b = text[place];
-    if is_in(b, Class::Lower) {
-        word_at(text, place)
-    } else if is_in(b, Class::Seat) {
-        seats_at(text, place)
+    };
+    if Class::Lower.has(b) {
+        let end = run_end(text, place, Class::Lower);
+        token(word(&text[place..end]), place, end, Refusal::UnknownWord)
+    } else if Class::Seat.has(b) {
+        let end = run_end(text, place, Class::Seat);
+        let letters = seat_set(&text[place..end]).map(Code::Letters);
+        token(letters, place, end, Refusal::NotRising)
     } else {
-        match mark(b) {
-            Some(code) => Ok(Some(Scanned {
-                token: Token { code, place },
-                end: place + 1,
-            })),
-            None => Err(TokenFault {
-                refusal: Refusal::UnknownByte,
-                place,
-            }),
-        }
+        token(mark(b), place, place + 1, Refusal::UnknownByte)
     }
 }

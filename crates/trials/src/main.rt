@@ -13,10 +13,7 @@ fn is_as_expected(rt: &HostRuntime, name: &str) -> anyhow::Result<bool> {
     let expected = fs::read(rt, format!(in rt.alloc(); "{name}.out")?.as_str())?;
     let mut out = vec![in rt.alloc(); 0u8; ROOM]?;
     let written = run(scheme.as_slice(), out.as_mut_slice()).len;
-    match out.as_slice().get(0..written) {
-        Some(printed) => Ok(printed == expected.as_slice()),
-        None => Ok(false),
-    }
+    Ok(&out.as_slice()[..written] == expected.as_slice())
 }
 
 fn main(rt: HostRuntime) -> anyhow::Result<()> {

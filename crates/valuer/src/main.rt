@@ -1,35 +1,17 @@
 // Reads a scheme file from standard input, writes what it prints, and says a refusal in words.
 #![tactic(auto)]
 
-ghost use Rattle.std.specs.Prelude.{◌≤◌, length, IfOk};
-
 use anyhow::anyhow;
-use runs::outcome::Ending;
+use runs::outcome::Stop;
 use runs::run;
 use schemes::fault::{Fault, LineFault};
 use std::io;
 use std::io::{Read, Write};
 
 // One byte more than a file may have, so that a longer one is seen to be longer.
-const INPUT: usize = 32_257;
+const INPUT: u64 = 32_257;
 
 const OUTPUT: usize = 65_536;
-
-// Fills the buffer from the input, as far as that goes, and answers how much came.
-fn fill(rt: &HostRuntime, file: &mut [u8]) -> io::Result<usize>
-    ensures { IfOk result (λ n. n ≤ length file.new) }
-{
-    let mut input = rt.stdin();
-    let mut len = 0;
-    while len < file.len() {
-        let got = input.read(&mut file[len..])?;
-        if got == 0 {
-            break;
-        }
-        len += got;
-    }
-    Ok(len)
-}
 
 // Says in words why a line, or the whole file, is refused.
 fn explain(rt: &HostRuntime, at: LineFault) -> io::Result<()> {
@@ -50,19 +32,19 @@ fn explain(rt: &HostRuntime, at: LineFault) -> io::Result<()> {
 
 // Runs the file. A refusal that is printed is no error; output that is not complete is.
 fn value(rt: &HostRuntime) -> anyhow::Result<()> {
-    let mut file = [0; INPUT];
+    let mut file = Vec::new(rt.alloc());
+    rt.stdin().take(INPUT).read_to_end(&mut file)?;
     let mut out = [0; OUTPUT];
-    let len = fill(rt, &mut file)?;
-    let outcome = run(&file[0..len], &mut out);
+    let outcome = run(file.as_slice(), &mut out);
     let written = outcome.len;
     rt.stdout().write_all(&out[0..written])?;
     match outcome.ending {
-        Ending::Whole => Ok(()),
-        Ending::Refused(at) => {
+        Ok(()) => Ok(()),
+        Err(Stop::Refused(at)) => {
             let _ = explain(rt, at);
             Ok(())
         }
-        Ending::Full => Err(anyhow!("there is too little memory for what is printed next")),
+        Err(Stop::Full) => Err(anyhow!("there is too little memory for what is printed next")),
     }
 }
 

@@ -1,13 +1,16 @@
 -- The sum over all patterns, one seat after another.
-use Rattle.std.proofs.Common.{◌≡◌, ℕ, zero, suc, ◌+◌, ◌*◌, ◌/◌, ◌^◌, ◌<◌, ◌≤◌, true, false, List, [], ◌∷◌, ◌++◌, length, get_or, take, sym, refl, ap, ◌∙◌, subst, ap₂, mul_left_comm, add-one, arith}
+use Rattle.std.proofs.Common.{◌≡◌, ℕ, zero, suc, ◌+◌, ◌*◌, ◌/◌, ◌^◌, ◌<◌, ◌≤◌, true, false, List, [], ◌∷◌, ◌++◌, length, get_or, take, sym, refl, ap, ◌∙◌, subst, ap₂, ⊎_elim, mul_left_comm, add-one, arith}
 use native.Mathlib.Nat as NatL
-use Rattle.std.proofs.lemmas.List.{take_more, take_all, length_push}
+use Rattle.std.proofs.Math.ListN.{get_or-append}
+use Rattle.std.proofs.Math.Seq.{get_or-append_seam}
+use Rattle.std.proofs.lemmas.Bool.{cases_lt}
+use Rattle.std.proofs.lemmas.List.{length_push, get_or_past}
 use Rattle.patterns.specs.Patterns.{Pattern, all, number}
 use Rattle.patterns.proofs.Sums.{all_scale, all_two, add4}
 use Rattle.weights.specs.declared.exposure.Exposure.{Exposure}
 use Rattle.weights.specs.Exposures.{counted, gone, seat_at, Sound, Present, D}
 use Rattle.weights.specs.Patterns.{times, by_patterns}
-use Rattle.weights.proofs.Forms.{patterns_cons}
+use Rattle.weights.proofs.Forms.{patterns_cons, D_pos}
 use Rattle.weights.specs.Patterns.{pair}
 
 -- ---- patterns of a known length
@@ -83,78 +86,69 @@ unfolding D
 D_last [] x = refl
 D_last (y ∷ ys) x = ap (λ (d : ℕ). y.present * d) (D_last ys x) ∙ mul_left_comm y.present x.present (D ys)
 
-take_pos : (xs : List Exposure) (i : ℕ) → Present xs → 1 ≤ D (take i xs)
-unfolding D
-take_pos xs zero h = omega arith
-take_pos [] (suc i) h = omega arith
-take_pos (x ∷ xs) (suc i) h = NatL.one-le-mul (h 0 (omega arith)) (take_pos xs i (λ k q. h (suc k) (omega arith)))
-
--- ---- with i seats left: the sums are those of their patterns, and full is twenty times the product of the present counts summed out
-pub record Left (xs : List Exposure) (shares : List ℕ) (i left : ℕ) (sums : List ℕ) (full : ℕ) : Type 0 where
-  pub power : left ≡ 2 ^ length (take i xs)
-  pub room : left ≤ length sums
-  pub value : by_patterns (take i xs) (λ P. get_or sums (number P) 0) ≡ by_patterns xs (λ P. get_or shares (number P) 0)
-  pub bound : (p : ℕ) → p < left → get_or sums p 0 ≤ full
-  pub product : full * D (take i xs) ≡ 20 * D xs
-
-half : (n : ℕ) → 2 ^ suc n / 2 ≡ 2 ^ n
-half n = omega (arith, NatL.pow-suc 2 n)
+-- ---- with these seats left: the sums are those of their patterns, and full is twenty times the product of the present counts summed out
+pub record Left (xs : List Exposure) (shares : List ℕ) (left : List Exposure) (sums : List ℕ) (full : ℕ) : Type 0 where
+  pub sound : Sound left
+  pub present : Present left
+  pub room : 2 ^ length left ≤ length sums
+  pub value : by_patterns left (λ P. get_or sums (number P) 0) ≡ by_patterns xs (λ P. get_or shares (number P) 0)
+  pub bound : (p : ℕ) → p < 2 ^ length left → get_or sums p 0 ≤ full
+  pub product : full * D left ≡ 20 * D xs
 
 within_pair : (g c r s t m : ℕ) → g + c ≡ r → s ≤ m → t ≤ m → g * s + c * t ≤ m * r
 within_pair g c r s t m e p q = omega (arith, NatL.mul-le-mul_left g p, NatL.mul-le-mul_left c q, ap (λ (k : ℕ). k * m) e)
 
-module _ {xs : List Exposure} {shares : List ℕ} {i left : ℕ} {sums : List ℕ} {full : ℕ} (l : Left xs shares (i + 1) left sums full) (h : i < length xs) where
-  abbrev here : Exposure
-  here = seat_at xs i
+module _ {xs : List Exposure} {shares : List ℕ} {left : List Exposure} {sums : List ℕ} {full : ℕ} (l : Left xs shares left sums full) (others : List Exposure) (last : Exposure) (e : left ≡ others ++ (last ∷ [])) where
+  last_at : seat_at left (length others) ≡ last
+  last_at = ap (λ (ys : List Exposure). seat_at ys (length others)) e ∙ get_or-append_seam others last [] _
 
-  abbrev rest : List Exposure
-  rest = take i xs
+  other_at : (i : ℕ) → i < length others → seat_at left i ≡ seat_at others i
+  other_at i h = ap (λ (ys : List Exposure). seat_at ys i) e ∙ get_or-append others (last ∷ []) _ i h
 
-  split : take (i + 1) xs ≡ rest ++ (here ∷ [])
-  split = take_more xs i _ h
+  long : length left ≡ suc (length others)
+  long = ap length e ∙ length_push others last ∙ add-one (length others)
 
-  power_is : left ≡ 2 ^ suc (length rest)
-  power_is = l.power ∙ ap (λ (ys : List Exposure). 2 ^ length ys) split ∙ ap (λ (n : ℕ). 2 ^ n) (length_push rest here ∙ add-one (length rest))
+  twice : 2 ^ length left ≡ 2 ^ length others * 2
+  twice = ap (λ (n : ℕ). 2 ^ n) long ∙ NatL.pow-suc 2 (length others)
 
-  half_is : left / 2 ≡ 2 ^ length rest
-  half_is = ap (λ (k : ℕ). k / 2) power_is ∙ half (length rest)
+  pub last_sound : last.count ≤ last.present
+  last_sound = subst (λ (x : Exposure). x.count ≤ x.present) last_at (l.sound (length others))
 
-  twice : left / 2 * 2 ≡ left
-  twice = omega (arith, power_is, half_is, NatL.pow-suc 2 (length rest))
+  others_sound : Sound others
+  others_sound i = ⊎_elim
+      (λ h. subst (λ (x : Exposure). x.count ≤ x.present) (other_at i h) (l.sound i))
+      (λ h. subst (λ (x : Exposure). x.count ≤ x.present) (sym (get_or_past others i _ h)) (omega arith))
+      (cases_lt i (length others))
 
-  product_next : full * here.present * D rest ≡ 20 * D xs
-  product_next = NatL.mul_assoc full here.present (D rest) ∙ sym (ap (λ (d : ℕ). full * d) (ap D split ∙ D_last rest here)) ∙ l.product
+  others_present : Present others
+  others_present i h = subst (λ (x : Exposure). 1 ≤ x.present) (other_at i h) (l.present i (omega (arith, long)))
+
+  product_next : full * last.present * D others ≡ 20 * D xs
+  product_next = NatL.mul_assoc full last.present (D others) ∙ sym (ap (λ (d : ℕ). full * d) (ap D e ∙ D_last others last)) ∙ l.product
 
   -- how large the next full can be
-  pub full_small : Present xs → full * (seat_at xs i).present ≤ 20 * D xs
-  full_small ps = omega (arith, product_next, NatL.mul-le-mul_left (full * here.present) (take_pos xs i ps))
+  pub full_small : full * last.present ≤ 20 * D xs
+  full_small = omega (arith, product_next, NatL.mul-le-mul_left (full * last.present) (D_pos others others_present))
 
-  pub pairs_fit : left / 2 * 2 ≤ length sums
+  pub pairs_fit : 2 ^ length others * 2 ≤ length sums
   pairs_fit = omega (arith, twice, l.room)
 
-  pub small : Present xs → (p : ℕ) → p < left / 2 * 2 → get_or sums p 0 * (seat_at xs i).present ≤ 20 * D xs
-  small ps p q = NatL.le_trans (NatL.mul-le-mul_right here.present (l.bound p (omega (arith, twice)))) (full_small ps)
+  pub small : (p : ℕ) → p < 2 ^ length others * 2 → get_or sums p 0 * last.present ≤ 20 * D xs
+  small p q = NatL.le_trans (NatL.mul-le-mul_right last.present (l.bound p (omega (arith, twice)))) full_small
 
-  pub left_next : Sound xs → (after : List ℕ) → length after ≡ length sums → ((p : ℕ) → p < left / 2 → get_or after p 0 ≡ pair (seat_at xs i) (left / 2) sums p)
-      → Left xs shares i (left / 2) after (full * (seat_at xs i).present)
-  left_next s after long e = record {
-    power = half_is;
+  pub left_next : (after : List ℕ) → length after ≡ length sums → ((p : ℕ) → p < 2 ^ length others → get_or after p 0 ≡ pair last (2 ^ length others) sums p)
+      → Left xs shares others after (full * last.present)
+  left_next after same h = record {
+    sound = others_sound;
+    present = others_present;
     room = omega (arith, pairs_fit);
-    value = summed rest here sums after (λ p q. e p (subst (λ (k : ℕ). p < k) (sym half_is) q) ∙ ap (λ (k : ℕ). pair here k sums p) half_is) ∙ sym (ap (λ (ys : List Exposure). by_patterns ys (λ P. get_or sums (number P) 0)) split) ∙ l.value;
-    bound = λ p q. NatL.le_trans (NatL.le_of_eq (e p q)) (within_pair (gone here) here.count here.present _ _ full (let k = s i in omega arith) (l.bound p (omega (arith, twice))) (l.bound (p + left / 2) (omega (arith, twice))));
+    value = summed others last sums after h ∙ sym (ap (λ (ys : List Exposure). by_patterns ys (λ P. get_or sums (number P) 0)) e) ∙ l.value;
+    bound = λ p q. NatL.le_trans (NatL.le_of_eq (h p q)) (within_pair (gone last) last.count last.present _ _ full (omega (arith, last_sound)) (l.bound p (omega (arith, twice))) (l.bound (p + 2 ^ length others) (omega (arith, twice))));
     product = product_next;
   }
 
-pub left_first : (xs : List Exposure) (shares : List ℕ) (i : ℕ) → length xs ≤ i → length shares ≡ 2 ^ length xs → ((p : ℕ) → get_or shares p 0 ≤ 20) → Left xs shares i (length shares) shares 20
-left_first xs shares i q e h =
-    let all = sym (take_all i xs q) in
-    record {
-      power = e ∙ ap (λ (ys : List Exposure). 2 ^ length ys) all;
-      room = omega arith;
-      value = sym (ap (λ (ys : List Exposure). by_patterns ys (λ P. get_or shares (number P) 0)) all);
-      bound = λ p r. h p;
-      product = sym (ap (λ (ys : List Exposure). 20 * D ys) all);
-    }
+pub left_first : (xs : List Exposure) (shares : List ℕ) → Sound xs → Present xs → length shares ≡ 2 ^ length xs → ((p : ℕ) → get_or shares p 0 ≤ 20) → Left xs shares xs shares 20
+left_first xs shares s q e h = record { sound = s; present = q; room = omega arith; value = refl; bound = λ p r. h p; product = refl }
 
 D-none : D [] ≡ 1
 unfolding D
@@ -165,12 +159,10 @@ pub record Done (xs : List Exposure) (shares : List ℕ) (weight full : ℕ) : T
   pub product : full ≡ 20 * D xs
   pub part : weight ≤ full
 
-pub all_done : {xs : List Exposure} {shares : List ℕ} {left : ℕ} {sums : List ℕ} {full : ℕ} → Left xs shares 0 left sums full → Done xs shares (get_or sums 0 0) full
+pub all_done : {xs : List Exposure} {shares : List ℕ} {sums : List ℕ} {full : ℕ} → Left xs shares [] sums full → Done xs shares (get_or sums 0 0) full
 unfolding number
-all_done {xs} {shares} {left} {sums} {full} l =
-    let one : left ≡ 1 = l.power in
-    record {
-      value = sym (none_left (λ P. get_or sums (number P) 0)) ∙ l.value;
-      product = sym (NatL.mul-one full) ∙ sym (ap (λ (d : ℕ). full * d) D-none) ∙ l.product;
-      part = l.bound 0 (omega (arith, one));
-    }
+all_done {xs} {shares} {sums} {full} l = record {
+  value = sym (none_left (λ P. get_or sums (number P) 0)) ∙ l.value;
+  product = sym (NatL.mul-one full) ∙ sym (ap (λ (d : ℕ). full * d) D-none) ∙ l.product;
+  part = l.bound 0 (omega arith);
+}

@@ -1,5 +1,6 @@
 -- Exposures: the count of each seat for a year, beside its present count.
-use Rattle.std.specs.Prelude.{ℕ, ◌-◌, ◌*◌, ◌<◌, ◌≤◌, Bool, true, false, cond, List, [], ◌∷◌, length, nat_lt, slice_index_or}
+use Rattle.std.specs.Prelude.{ℕ, ◌-◌, ◌*◌, ◌<◌, ◌≤◌, Bool, List, [], ◌∷◌, length, ◌==◌, slice_index_or}
+use Rattle.std.specs.List.{list_all}
 use Rattle.weights.specs.declared.exposure.Exposure.{Exposure}
 
 -- its count for the year
@@ -37,5 +38,4 @@ D (x ∷ xs) = x.present * D xs
 
 -- has no seat a count
 abbrev pub none_counted : List Exposure → Bool
-none_counted [] = true
-none_counted (x ∷ xs) = cond (nat_lt 0 x.count) false (none_counted xs)
+none_counted = list_all (λ x. x.count == 0)

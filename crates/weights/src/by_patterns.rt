@@ -7,7 +7,7 @@ ghost use Rattle.weights.specs.Patterns.{by_patterns, pair};
 use crate::exposure::Exposure;
 use crate::exposures::Exposures;
 use crate::weight::Weight;
-use patterns::{PATTERNS, SEATS, Shares};
+use patterns::Shares;
 
 // Sums out the last of the seats that are left: each sum of the other seats takes the two patterns that differ in it alone.
 fn sum_out(sums: &mut [u64], others: usize, seat: Exposure)
@@ -32,13 +32,12 @@ pub fn by_patterns(exposures: &Exposures, shares: &Shares) -> Weight
     ensures full { result.full ≡ 20 * D exposures.now.seats }
 {
     let mut sums = shares.twentieths;
-    let mut left = PATTERNS;
     let mut full = 20;
-    for i in (0..SEATS).rev() {
-        let seat = exposures.seats[i];
-        left /= 2;
-        sum_out(&mut sums, left, seat);
+    let mut left = &exposures.seats[..];
+    while let Some((seat, others)) = left.split_last() {
+        sum_out(&mut sums, 1 << others.len(), *seat);
         full *= seat.present;
+        left = others;
     }
     Weight {
         weight: sums[0],

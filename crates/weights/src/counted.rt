@@ -9,11 +9,6 @@ impl Exposures {
     pub fn is_over(&self) -> bool
         ensures { result ≡ none_counted self.now.seats }
     {
-        for seat in &self.seats {
-            if seat.count > 0 {
-                return false;
-            }
-        }
-        true
+        self.seats.iter().all(|seat| seat.count == 0)
     }
 }

@@ -6,8 +6,8 @@ ghost use Rattle.cases.specs.Views.{enrolling_book};
 
 use crate::enrolling::Enrolling;
 use lives::life::Life;
-use patterns::SEATS;
 use refusals::Refusal;
+use seats::number::SeatNumber;
 use seats::seat::Mark;
 use seats::table::SeatTable;
 
@@ -29,9 +29,7 @@ impl Enrolling {
         ensures answer { result ≡ judged (enrol seat (column (L.count life.now))) (enrolling_book self.old) }
         ensures after { enrolling_book self.new ≡ step (enrol seat (column (L.count life.now))) (enrolling_book self.old) }
     {
-        if seat >= SEATS {
-            return Err(Refusal::NoSeat);
-        }
+        let seat = SeatNumber::try_from(seat)?;
         match self.table.mark(seat) {
             Mark::Empty => {}
             Mark::Living | Mark::Failed => return Err(Refusal::Occupied),
@@ -53,9 +51,7 @@ impl Enrolling {
         ensures answer { result ≡ judged (withdraw seat) (enrolling_book self.old) }
         ensures after { enrolling_book self.new ≡ step (withdraw seat) (enrolling_book self.old) }
     {
-        if seat >= SEATS {
-            return Err(Refusal::NoSeat);
-        }
+        let seat = SeatNumber::try_from(seat)?;
         match self.table.mark(seat) {
             Mark::Empty => return Err(Refusal::Vacant),
             Mark::Living | Mark::Failed => {}

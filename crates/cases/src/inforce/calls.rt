@@ -1,13 +1,12 @@
 // The calls that put a case in force, move it on and close it.
-ghost use Rattle.std.specs.Prelude.{◌≡◌, None};
-ghost use Rattle.cases.specs.Book.{judged, step, start, fail};
-ghost use Rattle.cases.specs.Book.{year_end};
+ghost use Rattle.std.specs.Prelude.{◌≡◌, None, Ok, Err, MatchResult};
+ghost use Rattle.cases.specs.Book.{judged, judge_fail, step, start, fail, year_end};
 ghost use Rattle.cases.specs.Views.{enrolling_book, in_force_book, closed};
 
 use crate::enrolling::Enrolling;
 use crate::inforce::{Closed, InForce};
-use patterns::SEATS;
 use refusals::Refusal;
+use seats::number::SeatNumber;
 use seats::seat::Mark;
 
 impl Enrolling {
@@ -26,20 +25,25 @@ impl Enrolling {
 }
 
 impl InForce {
+    // The number of a living seat, or why the seat may not fail.
+    pub(super) fn living(&self, seat: usize) -> Result<SeatNumber, Refusal>
+        ensures { MatchResult result (λ s. (judge_fail self.now.table.seats seat ≡ Ok tt) × (s.index ≡ seat)) (λ e. judge_fail self.now.table.seats seat ≡ Err e) }
+    {
+        let seat = SeatNumber::try_from(seat)?;
+        match self.table.mark(seat) {
+            Mark::Empty => Err(Refusal::Vacant),
+            Mark::Failed => Err(Refusal::AlreadyFailed),
+            Mark::Living => Ok(seat),
+        }
+    }
+
     // A living seat fails.
     pub fn fail(&mut self, seat: usize) -> Result<(), Refusal>
         ensures answer { result ≡ judged (fail seat) (in_force_book self.old) }
         ensures after { in_force_book self.new ≡ step (fail seat) (in_force_book self.old) }
         ensures supposed { self.new.supposed ≡ self.old.supposed }
     {
-        if seat >= SEATS {
-            return Err(Refusal::NoSeat);
-        }
-        match self.table.mark(seat) {
-            Mark::Empty => return Err(Refusal::Vacant),
-            Mark::Failed => return Err(Refusal::AlreadyFailed),
-            Mark::Living => {}
-        }
+        let seat = self.living(seat)?;
         self.table.fail(seat);
         Ok(())
     }

@@ -6,7 +6,7 @@ ghost use Rattle.cases.specs.Views.{shown_book};
 ghost use Rattle.cases.specs.Routing.{differenced, symmetric};
 
 use super::InForce;
-use super::shown::test_number;
+use super::weigh::test_number;
 use benefits::benefit::Benefit;
 use refusals::Refusal;
 use routes::by_counts::symmetric_sum;
@@ -19,7 +19,7 @@ impl InForce {
     pub fn difference(&self, benefit: &Benefit, order: usize) -> Result<i64, Refusal>
         ensures { result ≡ differenced (shown_book self.now) benefit.now order }
     {
-        self.test_seats(benefit)?;
+        self.as_supposed().test_seats(benefit)?;
         test_number(benefit)?;
         if order > benefit.named().count_ones() as usize {
             return Ok(0);
@@ -37,7 +37,8 @@ impl InForce {
         ensures value { result ≡ symmetric (shown_book self.now) benefit.now year members }
         ensures past { IfOk result (λ s. (size (flags seats benefit.now.named) < members → s ≡ 0)) }
     {
-        self.test_route(benefit, year, Route::Patterns)?;
-        Ok(symmetric_sum(&self.exposures_shown(benefit, year), members))
+        let view = self.as_supposed();
+        view.test(benefit, year, Route::Patterns)?;
+        Ok(symmetric_sum(&view.exposures(benefit, year), members))
     }
 }

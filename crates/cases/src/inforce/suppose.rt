@@ -3,9 +3,7 @@ ghost use Rattle.std.specs.Prelude.{◌≡◌};
 ghost use Rattle.cases.specs.Book.{judge_suppose, supposing};
 
 use super::InForce;
-use patterns::SEATS;
 use refusals::Refusal;
-use seats::seat::Mark;
 
 // Holds the case while a supposition stands: one may only weigh and value.
 pub struct Supposition<'a> {
@@ -29,14 +27,8 @@ impl InForce {
     pub fn test_suppose(&self, seat: usize) -> Result<(), Refusal>
         ensures { result ≡ judge_suppose self.now.table.seats seat }
     {
-        if seat >= SEATS {
-            return Err(Refusal::NoSeat);
-        }
-        match self.table.mark(seat) {
-            Mark::Empty => Err(Refusal::Vacant),
-            Mark::Failed => Err(Refusal::AlreadyFailed),
-            Mark::Living => Ok(()),
-        }
+        self.living(seat)?;
+        Ok(())
     }
 
     // Supposes a seat failed until the guard goes; a seat that is refused supposes nothing.

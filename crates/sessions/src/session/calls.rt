@@ -5,13 +5,14 @@ ghost use Rattle.schemes.specs.Enrolment.{Leaves};
 ghost use Rattle.schemes.specs.Syntax.{amount};
 ghost use Rattle.sessions.specs.Machine.{withdrawn, failed, aged, Values};
 
+use annuities::pricing::Pricing;
 use annuities::valuation::Valuation;
-use annuities::values::value;
 use benefits::benefit::Benefit;
 use cases::enrolling::Enrolling;
 use cases::inforce::InForce;
 use expressions::{Pending, Word};
 use lines::kind::Kind;
+use routes::route::Route;
 use schemes::fault::Fault;
 use schemes::reading::{amount_and_clauses, no_number, only_number};
 use tokens::faults::with_number;
@@ -60,6 +61,12 @@ pub(super) fn price(case: &InForce, rest: &[u8], rate: u32) -> Result<Valuation,
     let mut answers = [0; LIST];
     let read = Benefit::read(line.amount, line.clauses, &mut pending, &mut answers);
     let benefit = with_number(read, line.place)?;
-    let valuation = value(case, &benefit, rate)?;
+    let pricing = Pricing {
+        view: case.itself(),
+        benefit: &benefit,
+        rate,
+        route: Route::Patterns,
+    };
+    let valuation = pricing.value()?;
     Ok(valuation)
 }

@@ -23,31 +23,10 @@ impl Session {
         ensures { state_of result ≡ beginning }
     {
         Session {
-            phase: Phase::Enrolling,
-            enrolling: Enrolling::open(),
-            inforce: Enrolling::open().start(),
+            phase: Phase::Enrolling(Enrolling::open()),
             tables: Tables::new(),
             rate: 0,
         }
-    }
-
-    // The case that is enrolling goes in force.
-    fn start(&mut self)
-        ensures { state_of self.new ≡ in_phase (step start (enrolling_book self.old.enrolling)) (state_of self.old) }
-    {
-        let case = mem::replace(&mut self.enrolling, Enrolling::open());
-        self.inforce = case.start();
-        self.phase = Phase::InForce;
-    }
-
-    // The case in force ends, and a new one is enrolling.
-    fn close(&mut self)
-        ensures { state_of self.new ≡ in_phase new_case (state_of self.old) }
-    {
-        let case = mem::replace(&mut self.inforce, Enrolling::open().start());
-        let _ = case.close();
-        self.enrolling = Enrolling::open();
-        self.phase = Phase::Enrolling;
     }
 
     // The phase and the line's kind together decide what is done, where the session is.
@@ -55,47 +34,26 @@ impl Session {
         ensures acts { Acts kind rest.now (state_of self.old) (done_by result (state_of self.new)) }
         ensures kept { Kept result (state_of self.new) (state_of self.old) }
     {
-        match (self.phase, kind) {
-            (_, Kind::Rate) => {
-                self.rate = only_number(kind, rest)?;
-                Ok(None)
-            }
-            (Phase::Enrolling, Kind::Table) => {
-                self.tables.extend(rest)?;
-                Ok(None)
-            }
-            (Phase::Enrolling, Kind::Life) => {
-                enrol(&mut self.enrolling, &self.tables, rest)?;
-                Ok(None)
-            }
-            (Phase::Enrolling, Kind::Withdraw) => {
-                withdraw(&mut self.enrolling, rest)?;
-                Ok(None)
-            }
-            (Phase::Enrolling, Kind::Start) => {
+        match (&mut self.phase, kind) {
+            (_, Kind::Rate) => self.rate = only_number(kind, rest)?,
+            (Phase::Enrolling(_), Kind::Table) => self.tables.extend(rest)?,
+            (Phase::Enrolling(case), Kind::Life) => enrol(case, &self.tables, rest)?,
+            (Phase::Enrolling(case), Kind::Withdraw) => withdraw(case, rest)?,
+            (Phase::Enrolling(case), Kind::Start) => {
                 no_number(kind, rest)?;
-                self.start();
-                Ok(None)
+                let case = mem::replace(case, Enrolling::open());
+                self.phase = Phase::InForce(case.start());
             }
-            (Phase::InForce, Kind::Fail) => {
-                fail(&mut self.inforce, rest)?;
-                Ok(None)
-            }
-            (Phase::InForce, Kind::YearEnd) => {
-                year_end(&mut self.inforce, rest)?;
-                Ok(None)
-            }
-            (Phase::InForce, Kind::Benefit) => {
-                let valuation = price(&self.inforce, rest, self.rate)?;
-                Ok(Some(valuation))
-            }
-            (Phase::InForce, Kind::Close) => {
+            (Phase::InForce(case), Kind::Fail) => fail(case, rest)?,
+            (Phase::InForce(case), Kind::YearEnd) => year_end(case, rest)?,
+            (Phase::InForce(case), Kind::Benefit) => return price(case, rest, self.rate).map(Some),
+            (Phase::InForce(_), Kind::Close) => {
                 no_number(kind, rest)?;
-                self.close();
-                Ok(None)
+                self.phase = Phase::Enrolling(Enrolling::open());
             }
-            _ => Err(Fault::At(0, Refusal::Phase)),
+            _ => return Err(Fault::At(0, Refusal::Phase)),
         }
+        Ok(None)
     }
 
     // One line: its kind, then what its kind does in this phase.

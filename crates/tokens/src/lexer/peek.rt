@@ -25,10 +25,7 @@ impl<'a> Lexer<'a> {
     pub fn peek(&self) -> Result<Option<Token>, TokenFault>
         ensures { result ≡ look (lexed self.now) (at self.now) }
     {
-        match self.ahead? {
-            Some(s) => Ok(Some(s.token)),
-            None => Ok(None),
-        }
+        Ok(self.ahead?.map(|s| s.token))
     }
 
     // Goes past the next token, where there is one.

@@ -1,10 +1,17 @@
--- The invariant of the loop in `read_clauses`, and its measure.
-use Rattle.std.proofs.Common.{◌+◌, ◌-◌, ◌≤◌, length}
+-- The invariant of the loop in `read_clauses`.
+use Rattle.std.proofs.Common.{◌≡◌, ◌+◌, ◌≤◌, false, length}
+use Rattle.std.specs.Slice.Iter.{split_rest, split_done}
+use Rattle.expressions.specs.Verdict.{pending_room, answers_room}
+use Rattle.benefits.specs.Clauses.{clauses_of}
+use Rattle.benefits.proofs.Parting.{left}
 use Rattle.benefits.proofs.Saying.{Sofar}
 use Rattle.benefits.proofs.sums.read_clauses.Given as goal
 
-abbrev pub invariant-loop-at : goal.invariant-loop-at
-invariant-loop-at l = Sofar l.text l.at l.number l.named l.twentieths (length l.initial.pending) (length l.initial.answers) × (l.at ≤ length l.text + 1) × (l.number ≤ l.at + 1)
-
-abbrev pub decreases-loop-at : goal.decreases-loop-at
-decreases-loop-at l = length l.text + 1 - l.at
+abbrev pub invariant-loop-i : goal.invariant-loop-i
+invariant-loop-i l =
+    (goal.iterator-loop-i).can_next l.i-iterator
+    × (goal.iterator-loop-i).is_finite l.i-iterator
+    × Sofar (clauses_of l.text) (left (split_rest l.i-iterator.iter) (split_done l.i-iterator.iter)) l.at (l.i-iterator.count + 1) l.sums.named l.sums.twentieths (pending_room l.initial.lists) (answers_room l.initial.lists)
+    × (pending_room l.lists ≡ pending_room l.initial.lists)
+    × (answers_room l.lists ≡ answers_room l.initial.lists)
+    × (split_done l.i-iterator.iter ≡ false → l.at + length (split_rest l.i-iterator.iter) ≤ length l.text)

@@ -5,7 +5,7 @@ use Rattle.cases.specs.declared.inforce.InForce.{InForce}
 use Rattle.cases.specs.Book.{Book, running, as_supposed}
 use Rattle.cases.specs.Views.{shown_book}
 use Rattle.cases.proofs.SameCase.{same_case}
-use Rattle.annuities.specs.Routed.{valued_by}
+use Rattle.annuities.specs.Values.{valued}
 use Rattle.histories.proofs.supposed.value_supposing.Goals as goal
 
 -- what is seen through the guard
@@ -15,15 +15,15 @@ through seen held o t n e p q r = ap shown_book e ∙ (λ i. running (as_suppose
 pub returns-in_err-valuation : goal.returns-in_err-valuation
 returns-in_err-valuation c =
     let s = c.suppose-guard.ensures in
-    let b = through _ _ _ _ _ c.case.ensures s.supposed s.table s.elapsed in
-    let v = c.value_by.ensures ∙ ap (λ (k : Book). valued_by k c.args.benefit.now c.args.rate c.args.route) b in
+    let b = c.as_supposed-view.ensures ∙ through _ _ _ _ _ c.case.ensures s.supposed s.table s.elapsed in
+    let v = c.value.ensures ∙ ap (λ (k : Book). valued k c.args.benefit.now c.args.rate c.args.route) b in
     record { same = search (rules, same_case); value = search rules }
 
 pub returns : goal.returns
 returns c =
     let s = c.suppose-guard.ensures in
-    let b = through _ _ _ _ _ c.case.ensures s.supposed s.table s.elapsed in
+    let b = c.as_supposed-view.ensures ∙ through _ _ _ _ _ c.case.ensures s.supposed s.table s.elapsed in
     record {
       same = search (rules, same_case);
-      value = sym c.in_ok-valuation.was ∙ c.value_by.ensures ∙ ap (λ (k : Book). valued_by k c.args.benefit.now c.args.rate c.args.route) b;
+      value = sym c.in_ok-valuation.was ∙ c.value.ensures ∙ ap (λ (k : Book). valued k c.args.benefit.now c.args.rate c.args.route) b;
     }

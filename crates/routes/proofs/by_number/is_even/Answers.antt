@@ -9,7 +9,7 @@ use Rattle.weights.specs.Numbers.{share_with}
 use Rattle.weights.proofs.Evens.{only_even, even_only, other_uneven, with_even}
 use Rattle.routes.proofs.ByNumber.{inside-yes, inside_no, ones_le}
 use Rattle.routes.proofs.by_number.is_even.Goals as goal
-use Rattle.routes.proofs.by_number.is_even.Goals.{then-p-named+else-shares-p, else-p-named}
+use Rattle.routes.proofs.by_number.is_even.Goals.{then-p-named+else-share-by_number, else-p-named}
 
 pub overflow_cast-p : goal.overflow_cast-p
 overflow_cast-p c = record { fits = omega (arith, ones_le seats c.loop-p.p c.loop-p-test.true) }
@@ -17,14 +17,14 @@ overflow_cast-p c = record { fits = omega (arith, ones_le seats c.loop-p.p c.loo
 pub bounds-by_number-p : goal.bounds-by_number-p
 bounds-by_number-p c = omega (arith, ones_le seats c.loop-p.p c.loop-p-test.true)
 
-pub returns-then-shares-p : goal.returns-then-shares-p
-returns-then-shares-p c =
+pub returns-then-share-by_number : goal.returns-then-share-by_number
+returns-then-share-by_number c =
     let f = λ (q : ℕ). get_or c.args.shares.now.twentieths q 0 in
     let N = c.args.named in
     let p = c.loop-p.p in
     let h = c.loop-p-test.true in
     let here = c.shares_by_number-by_number.ensures (ones p) ∙ ap (share_with seats f N) (ones_size seats p h) in
-    let clash = other_uneven seats f N p h (inside-yes seats N p h c.if-p-named.true) (λ e. c.if-shares-p.true (e ∙ sym here)) in
+    let clash = other_uneven seats f N p h (inside-yes seats N p h c.if-p-named.true) (λ e. c.if-share-by_number.true (e ∙ sym here)) in
     record {
       answer = sym (ap not clash);
       yes = λ e. absurd (false≢true e);
@@ -39,7 +39,7 @@ loop-p-preserved c =
     let h = c.loop-p-test.true in
     let here : T (within (flags seats p) (flags seats N)) → f p ≡ share_with seats f N (size (flags seats p)) =
     elim c.if-p-named.branch [
-      | then-p-named+else-shares-p w ↦ λ t. w.if-shares-p.false ∙ c.shares_by_number-by_number.ensures (ones p) ∙ ap (share_with seats f N) (ones_size seats p h)
+      | then-p-named+else-share-by_number w ↦ λ t. w.if-share-by_number.false ∙ c.shares_by_number-by_number.ensures (ones p) ∙ ap (share_with seats f N) (ones_size seats p h)
       | else-p-named w ↦ λ t. absurd (subst T (inside_no seats N p h w.if-p-named.false) t)
     ] in
     below_more _ _ c.loop-p.invariant here

@@ -1,20 +1,31 @@
 -- The needs of `tell`.
-use Rattle.std.proofs.Common.{◌-◌, ◌++◌, length, sym, ◌∙◌, subst}
-use Rattle.runs.specs.Run.{FileRuns, ran, refused}
-use Rattle.runs.proofs.Running.{written_on}
+use Rattle.std.proofs.Common.{[], ◌++◌, Err, subst}
+use Rattle.std.proofs.lemmas.Result.{err_from_is_err_and}
+use Rattle.writing.specs.Outputs.{room}
+use Rattle.runs.specs.Run.{FileRuns, blamed, so_far}
+use Rattle.runs.specs.declared.outcome.Stop.TheVariants.{Refused}
+use Rattle.runs.proofs.Running.{blamed_after, blamed-full, adds-on}
 use Rattle.runs.proofs.told.tell.Goals as goal
 
-pub returns-in-Err : goal.returns-in-Err
-returns-in-Err c =
-    let a = c.args.output.now.area.now in
-    let b = c.run_file.new.output.area.now in
-    let h = c.in-Err.ensures.runs in
-    let f = refused (length b - c.run_file.new.output.len) c.in-Err.at in
-    record {
-      lent = c.refuse.ensures.lent ∙ c.in-Err.ensures.lent;
-      runs = (
-        h.0 ++ f.bytes,
-        written_on a b c.refuse.new.output.area.now c.args.output.now.len c.run_file.new.output.len c.refuse.new.output.len h.0 f.bytes c.requires h.1 c.refuse.ensures.written,
-        subst (λ e. FileRuns c.args.file.now (length a - c.args.output.now.len) (ran (h.0 ++ f.bytes) e)) (sym c.refuse.ensures.ending) h.2,
-      );
-    }
+pub returns-in_err-blame-in-Err-Refused : goal.returns-in_err-blame-in-Err-Refused
+returns-in_err-blame-in-Err-Refused c =
+    let h = c.in-Err-Refused.ensures in
+    let b = c.run_file.new.output in
+    let at = c.in-Err-Refused.at in
+    let r : FileRuns c.args.file.now (room c.args.output.now) (so_far h.0 (room b) (Err (Refused at))) = rw c.in-Err-Refused.field-0-is at h.2 in
+    let p = err_from_is_err_and c.from_residual.result c.from_residual.ensures.1 in (
+      h.0 ++ [],
+      adds-on c.args.output.now b c.blame.new.output h.0 [] h.1 c.in_err-blame-in-Err-Refused.ensures.adds,
+      rw (p.1, p.2) (subst (FileRuns c.args.file.now (room c.args.output.now)) (blamed-full h.0 (room b) at c.in_err-blame-in-Err-Refused.ensures.fits) r),
+    )
+
+pub returns-in_ok-blame-in-Err-Refused : goal.returns-in_ok-blame-in-Err-Refused
+returns-in_ok-blame-in-Err-Refused c =
+    let h = c.in-Err-Refused.ensures in
+    let b = c.run_file.new.output in
+    let at = c.in-Err-Refused.at in
+    let r : FileRuns c.args.file.now (room c.args.output.now) (so_far h.0 (room b) (Err (Refused at))) = rw c.in-Err-Refused.field-0-is at h.2 in (
+      h.0 ++ blamed at,
+      adds-on c.args.output.now b c.blame.new.output h.0 (blamed at) h.1 c.in_ok-blame-in-Err-Refused.ensures.adds,
+      subst (FileRuns c.args.file.now (room c.args.output.now)) (blamed_after h.0 (room b) at c.in_ok-blame-in-Err-Refused.ensures.fits) r,
+    )

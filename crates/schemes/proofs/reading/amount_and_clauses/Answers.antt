@@ -1,4 +1,4 @@
--- The needs of `amount_and_clauses`.
+-- What is left to show of `amount_and_clauses`.
 use Rattle.std.proofs.Common.{◌+◌, length, sym, refl, ap, ◌∙◌, arith, ltb-false, ltb-true}
 use Rattle.std.proofs.lemmas.Result.{err_from_is_err_and}
 use Rattle.schemes.specs.Syntax.{first_field}

@@ -1,15 +1,13 @@
--- The invariant and the measure of `read_all`.
-use Rattle.std.proofs.Common.{◌≡◌, ℕ, ◌+◌, ◌≤◌, List, [], length, take}
+-- What the loop of `read_all` keeps: the fields ahead, read after the numbers so far, give what the whole line gives.
+use Rattle.std.proofs.Common.{◌≡◌, ℕ, List, [], take}
 use Rattle.schemes.specs.Most.{most}
 use Rattle.lines.specs.Pieces.{fields}
+use Rattle.schemes.specs.Places.{ahead}
 use Rattle.schemes.specs.Syntax.{reads}
+use Rattle.schemes.proofs.Fielding.{reads_at}
 use Rattle.schemes.proofs.reading.read_all.Given as goal
 
-abbrev pub invariant-loop-left : goal.invariant-loop-left
-invariant-loop-left l =
-    (sofar : List ℕ) × (l.taken ≡ length sofar) × (take l.numbers.len l.numbers.items ≡ take most sofar)
-    × (reads l.kind sofar l.place (fields l.left) ≡ reads l.kind [] 2 (fields l.rest))
-    × (l.place + length l.left ≡ length l.rest + 2) × (l.taken + length l.left ≤ length l.rest)
-
-abbrev pub decreases-loop-left : goal.decreases-loop-left
-decreases-loop-left l = length l.left
+abbrev pub invariant-loop-place : goal.invariant-loop-place
+invariant-loop-place l =
+    (goal.iterator-loop-place).can_next l.place-iterator × (goal.iterator-loop-place).is_finite l.place-iterator
+    × (sofar : List ℕ) × (l.numbers.items ≡ take most sofar) × (reads_at l.kind sofar (ahead l.place-iterator) ≡ reads l.kind [] 2 (fields l.rest))

@@ -1,4 +1,4 @@
--- The needs of `reads_stand`.
+-- What is left to show of `reads_stand`.
 use Rattle.schemes.proofs.Giving.{reads_stand}
 use Rattle.schemes.proofs.reading.reads_stand.Goals as goal
 

@@ -1,14 +1,19 @@
 -- The needs of `run_end`.
-use Rattle.std.proofs.Common.{sym, arith}
-use Rattle.std.proofs.lemmas.List.Sums.{prefix_len-drop_yes, prefix_len-drop_no, prefix_len-drop_all}
+use Rattle.std.proofs.Common.{◌+◌, length, drop, ap, ◌∙◌, rules, arith}
+use Rattle.std.specs.Slice.Iter.{iter_rest}
+use Rattle.std.proofs.lemmas.Iterator.{YieldsList-from_slice}
+use Rattle.std.proofs.lemmas.Iterator.Consumers.{count_from_yields_List}
+use Rattle.std.proofs.lemmas.Iterator.Search.{YieldsList-from_take_while}
+use Rattle.std.proofs.lemmas.List.Folds.{length-prefix_len}
+use Rattle.std.proofs.lemmas.Slice.{between_to_end}
 use Rattle.tokens.specs.Classes.{member}
 use Rattle.tokens.proofs.classes.run_end.Goals as goal
 
-pub loop-n-preserved : goal.loop-n-preserved
-loop-n-preserved c = let e = prefix_len-drop_yes (member c.args.class) c.args.text.now c.loop-n.n 0 c.loop-n-test.true (sym c.if-is_in.ensures) in (omega arith, omega (arith, e, c.loop-n.invariant.1))
-
-pub returns-else-is_in : goal.returns-else-is_in
-returns-else-is_in c = let e = prefix_len-drop_no (member c.args.class) c.args.text.now c.loop-n.n 0 c.loop-n-test.true (sym c.if-is_in.ensures) in record { end = omega (arith, e, c.loop-n.invariant.1); within = omega arith }
-
-pub returns-after-loop-n : goal.returns-after-loop-n
-returns-after-loop-n c = let e = prefix_len-drop_all (member c.args.class) c.args.text.now c.loop-n.n (omega arith) in record { end = omega (arith, e, c.loop-n.invariant.1); within = omega arith }
+pub returns-clause-end : goal.returns-clause-end
+returns-clause-end c =
+    let text = c.args.text.now in
+    let from = c.args.from in
+    let rest = drop from text in
+    let p = member c.args.class in
+    let source = ap iter_rest c.take_while.ensures.source ∙ c.iter.ensures.rest ∙ between_to_end text from (length text) (omega arith) in
+    ap (λ n. from + n) (count_from_yields_List c.take_while.result _ c.count.ensures.ran (YieldsList-from_take_while _ p (YieldsList-from_slice rest source) c.take_while.ensures.closure c.take_while.ensures.done (λ x b q k. search rules)) ∙ length-prefix_len p rest)

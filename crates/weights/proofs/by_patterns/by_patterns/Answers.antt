@@ -1,56 +1,60 @@
 -- The needs of `by_patterns`.
-use Rattle.std.proofs.Common.{◌≡◌, ℕ, ◌+◌, ◌-◌, ◌^◌, ◌<◌, length, sym, ap, ◌∙◌, subst, le_trans, arith}
+use Rattle.std.proofs.Common.{◌≡◌, ℕ, ◌+◌, ◌*◌, ◌%◌, ◌^◌, ◌<◌, ◌≤◌, List, length, sym, ap, ◌∙◌, subst, le_trans, arith}
+use Rattle.std.proofs.lemmas.List.{nil_from_length}
+use Rattle.std.proofs.lemmas.Nat.{one_shl}
 use Rattle.patterns.specs.Seats.{seats}
-use Rattle.weights.proofs.ByPatterns.{Left, pairs_fit, small, full_small, left_first, left_next, all_done}
+use Rattle.weights.proofs.ByPatterns.{Left, last_sound, pairs_fit, small, full_small, left_first, left_next, all_done}
 use Rattle.weights.proofs.Forms.{D_pos}
+use Rattle.weights.specs.declared.exposure.Exposure.{Exposure}
 use Rattle.weights.proofs.by_patterns.by_patterns.Goals as goal
 
-pub loop-i-init : goal.loop-i-init
-loop-i-init c =
+pub loop-seat-init : goal.loop-seat-init
+loop-seat-init c =
     let x = c.args.exposures.now in
     let s = c.args.shares.now in
-    let e : length s.twentieths ≡ 2 ^ length x.seats = s.long ∙ sym (ap (λ (n : ℕ). 2 ^ n) x.long) in
-    (s.long, subst (λ (n : ℕ). Left x.seats s.twentieths seats n s.twentieths 20) s.long (left_first x.seats s.twentieths seats (omega (arith, x.long)) e s.most))
+    record { long = s.long; few = omega (arith, x.long); left = left_first x.seats s.twentieths x.sound x.present (s.long ∙ sym (ap (λ (n : ℕ). 2 ^ n) x.long)) s.most }
+
+pub overflow_shl-others : goal.overflow_shl-others
+overflow_shl-others c = omega (arith, c.in-Some.ensures.cases.1, c.loop-seat.invariant.few)
 
 pub sum_out-requires : goal.sum_out-requires
 sum_out-requires c =
-    let x = c.args.exposures.now in
-    let one : c.loop-i.i ≡ c.loop-i.i - 1 + 1 = omega arith in
-    let l = subst (λ (n : ℕ). Left x.seats c.args.shares.now.twentieths n c.loop-i.left c.loop-i.sums c.loop-i.full) one c.loop-i.invariant.1 in
-    let h : c.loop-i.i - 1 < length x.seats = omega (arith, x.long) in
+    let l = c.loop-seat.invariant.left in
+    let o = c.in-Some.others.now in
+    let e = c.in-Some.ensures.cases.0 in
+    let s : 1 * 2 ^ length o % 2 ^ 64 ≡ 2 ^ length o = one_shl (length o) 64 (omega (arith, c.in-Some.ensures.cases.1, c.loop-seat.invariant.few)) in
     record {
-      room = pairs_fit l h;
-      sound = x.sound (c.loop-i.i - 1);
-      small = λ p q. le_trans (small l h x.present p q) (omega (arith, x.small));
+      room = rw s (pairs_fit l o c.in-Some.seat.now e);
+      sound = last_sound l o c.in-Some.seat.now e;
+      small = rw s (λ p q. le_trans (small l o c.in-Some.seat.now e p q) (omega (arith, c.args.exposures.now.small)));
     }
 
 pub overflow_mul-full : goal.overflow_mul-full
 overflow_mul-full c =
-    let x = c.args.exposures.now in
-    let one : c.loop-i.i ≡ c.loop-i.i - 1 + 1 = omega arith in
-    let l = subst (λ (n : ℕ). Left x.seats c.args.shares.now.twentieths n c.loop-i.left c.loop-i.sums c.loop-i.full) one c.loop-i.invariant.1 in
-    let h : c.loop-i.i - 1 < length x.seats = omega (arith, x.long) in
-    record { fits = omega (arith, full_small l h x.present, x.small) }
+    record { fits = omega (arith, full_small c.loop-seat.invariant.left c.in-Some.others.now c.in-Some.seat.now c.in-Some.ensures.cases.0, c.args.exposures.now.small) }
 
-pub loop-i-preserved : goal.loop-i-preserved
-loop-i-preserved c =
-    let x = c.args.exposures.now in
-    let one : c.loop-i.i ≡ c.loop-i.i - 1 + 1 = omega arith in
-    let l = subst (λ (n : ℕ). Left x.seats c.args.shares.now.twentieths n c.loop-i.left c.loop-i.sums c.loop-i.full) one c.loop-i.invariant.1 in
-    let h : c.loop-i.i - 1 < length x.seats = omega (arith, x.long) in
-    let e : length c.sum_out.new.sums ≡ length c.loop-i.sums = c.sum_out.auto.sums in
-    (e ∙ c.loop-i.invariant.0, left_next l h x.sound c.sum_out.new.sums e c.sum_out.ensures)
+pub loop-seat-smaller : goal.loop-seat-smaller
+loop-seat-smaller c = omega (arith, c.in-Some.ensures.cases.1)
+
+pub loop-seat-preserved : goal.loop-seat-preserved
+loop-seat-preserved c =
+    let o = c.in-Some.others.now in
+    let e : length c.sum_out.new.sums ≡ length c.loop-seat.sums = c.sum_out.auto.sums in
+    let s : 1 * 2 ^ length o % 2 ^ 64 ≡ 2 ^ length o = one_shl (length o) 64 (omega (arith, c.in-Some.ensures.cases.1, c.loop-seat.invariant.few)) in
+    record {
+      long = e ∙ c.loop-seat.invariant.long;
+      few = omega (arith, c.in-Some.ensures.cases.1);
+      left = left_next c.loop-seat.invariant.left o c.in-Some.seat.now c.in-Some.ensures.cases.0 c.sum_out.new.sums e (rw s at c.sum_out.ensures);
+    }
 
 pub invariant_of-result : goal.invariant_of-result
 invariant_of-result c =
     let x = c.args.exposures.now in
-    let none : c.loop-i.i ≡ 0 = omega arith in
-    let d = all_done (subst (λ (n : ℕ). Left x.seats c.args.shares.now.twentieths n c.loop-i.left c.loop-i.sums c.loop-i.full) none c.loop-i.invariant.1) in
+    let d = all_done (subst (λ (ys : List Exposure). Left x.seats c.args.shares.now.twentieths ys c.loop-seat.sums c.loop-seat.full) (nil_from_length c.loop-seat.left.now c.in_default.ensures.cases) c.loop-seat.invariant.left) in
     record { some = omega (arith, d.product, D_pos x.seats x.present); most = omega (arith, d.product, x.small); part = d.part }
 
 pub returns : goal.returns
 returns c =
     let x = c.args.exposures.now in
-    let none : c.loop-i.i ≡ 0 = omega arith in
-    let d = all_done (subst (λ (n : ℕ). Left x.seats c.args.shares.now.twentieths n c.loop-i.left c.loop-i.sums c.loop-i.full) none c.loop-i.invariant.1) in
+    let d = all_done (subst (λ (ys : List Exposure). Left x.seats c.args.shares.now.twentieths ys c.loop-seat.sums c.loop-seat.full) (nil_from_length c.loop-seat.left.now c.in_default.ensures.cases) c.loop-seat.invariant.left) in
     record { weight = d.value; full = d.product }

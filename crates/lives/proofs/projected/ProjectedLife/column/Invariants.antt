@@ -5,5 +5,6 @@ use Rattle.lives.proofs.projected.ProjectedLife.column.Given as goal
 
 abbrev pub invariant-loop-t : goal.invariant-loop-t
 invariant-loop-t g l =
-    let f = projected (g.L.Life.count l.self.life) (entries l.self.factors) in
-    (length l.counts ≡ 121) × (l.alive ≡ f l.t) × ((k : ℕ) → k < l.t + 1 → get_or l.counts k 0 ≡ f k) × ((k : ℕ) → l.t + 1 ≤ k → get_or l.counts k 0 ≡ 0)
+    let below = g.L.Life.count l.self.life in
+    let f = projected below (entries l.self.factors) in
+    (length l.count-items ≡ 120) × (l.here ≡ below l.t) × (l.alive ≡ f l.t) × ((k : ℕ) → k < l.t → get_or l.count-items k 0 ≡ f (k + 1)) × ((k : ℕ) → l.t ≤ k → k < 120 → get_or l.count-items k 0 ≡ below (k + 1))

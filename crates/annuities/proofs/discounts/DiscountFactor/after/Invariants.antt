@@ -1,0 +1,7 @@
+-- The invariant of `after`.
+use Rattle.std.proofs.Common.{◌≡◌}
+use Rattle.annuities.specs.Discounts.{discount}
+use Rattle.annuities.proofs.discounts.DiscountFactor.after.Given as goal
+
+abbrev pub invariant-loop-t : goal.invariant-loop-t
+invariant-loop-t l = l.discount.worth ≡ discount l.rate.hundredths l.t

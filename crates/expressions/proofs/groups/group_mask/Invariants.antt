@@ -1,7 +1,0 @@
--- The invariant of the loop in `group_mask`.
-use Rattle.std.proofs.Common.{◌≡◌}
-use Rattle.expressions.specs.Meaning.{packed, group_holds}
-use Rattle.expressions.proofs.groups.group_mask.Given as goal
-
-abbrev pub invariant-loop-pattern : goal.invariant-loop-pattern
-invariant-loop-pattern l = l.mask ≡ packed (group_holds l.group l.set) l.pattern

@@ -1,5 +1,0 @@
--- The measure of `push_number`.
-use Rattle.writing.proofs.text.Text.+push_number.Given as goal
-
-abbrev pub decreases-push_number : goal.decreases-push_number
-decreases-push_number l = l.n

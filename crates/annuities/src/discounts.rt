@@ -37,7 +37,7 @@ impl DiscountFactor {
         ensures { result.worth ≡ discount rate.hundredths years }
     {
         let mut discount = DiscountFactor::now();
-        for t in 0..years {
+        for _year in 0..years {
             discount = discount.next(rate);
         }
         discount

@@ -42,7 +42,7 @@ impl Pricing<'_, '_> {
     {
         let mut factor = 0;
         let mut discount = DiscountFactor::now();
-        for year in 0..LAST_YEAR + 1 {
+        for year in 0..=LAST_YEAR {
             let exposures = self.view.exposures(self.benefit, year);
             let weight = weigh(
                 &exposures,

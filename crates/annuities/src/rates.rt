@@ -3,6 +3,9 @@ ghost use Rattle.std.specs.Prelude.{◌≤◌};
 
 use refusals::Refusal;
 
+// 100% a year.
+const HIGHEST: u32 = 10_000;
+
 // A rate in hundredths of a percent, of at most 100% a year.
 #[derive(Clone, Copy)]
 pub(crate) struct Rate {
@@ -18,7 +21,7 @@ impl TryFrom<u32> for Rate {
     ghost try_from_gives = { Limited };
 
     fn try_from(hundredths: u32) -> Result<Rate, Refusal> {
-        if hundredths > 10_000 {
+        if hundredths > HIGHEST {
             return Err(Refusal::Number);
         }
         Ok(Rate { hundredths })

@@ -1,6 +1,7 @@
 // Answers in words.
 use histories::calls::{Account, Worked};
 use refusals::Refusal;
+use routes::route::Route;
 use std::io;
 
 // The letter of a seat.
@@ -49,7 +50,7 @@ pub fn show_number(rt: &HostRuntime, what: &str, answer: Result<u64, Refusal>) -
 }
 
 // What one route answers.
-fn show_worked(rt: &HostRuntime, route: &str, worked: &Worked) -> io::Result<()> {
+fn show_worked(rt: &HostRuntime, route: Route, worked: &Worked) -> io::Result<()> {
     println!(rt; "  {route}")?;
     show_number(rt, "weight", worked.weight)?;
     show_number(rt, "yearly factor", worked.factor)?;
@@ -65,7 +66,7 @@ fn show_worked(rt: &HostRuntime, route: &str, worked: &Worked) -> io::Result<()>
 // What the three routes answer.
 pub fn show_account(rt: &HostRuntime, account: &Account) -> io::Result<()> {
     println!(rt; "the account, for year 1")?;
-    show_worked(rt, "by patterns", &account.patterns)?;
-    show_worked(rt, "by subsets", &account.subsets)?;
-    show_worked(rt, "by counts", &account.counts)
+    show_worked(rt, Route::Patterns, &account.patterns)?;
+    show_worked(rt, Route::Subsets, &account.subsets)?;
+    show_worked(rt, Route::Counts, &account.counts)
 }

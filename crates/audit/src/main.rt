@@ -11,7 +11,6 @@ use answers::show_account;
 use benefits::benefit::Benefit;
 use calls::show_calls;
 use either::Either;
-use expressions::{Pending, Word};
 use histories::calls::{Enrolment, Event, History, Look};
 use lives::aged::Aged;
 use lives::demoivre::DeMoivre;
@@ -92,15 +91,10 @@ fn show_larger(rt: &HostRuntime, benefit: Benefit) -> io::Result<()> {
 }
 
 fn main(rt: HostRuntime) -> io::Result<()> {
-    let mut pending = [Pending {
-        word: Word::Or,
-        place: 0,
-    }; 64];
-    let mut answers = [0u16; 64];
-    if let Ok(benefit) = Benefit::read(100_000, b"20 last[AB]", &mut pending, &mut answers) {
+    if let Ok(benefit) = Benefit::parse(100_000, b"20 last[AB]") {
         show_couple(&rt, &benefit)?;
     }
-    if let Ok(benefit) = Benefit::read(100_000, b"20 last[ABC]", &mut pending, &mut answers) {
+    if let Ok(benefit) = Benefit::parse(100_000, b"20 last[ABC]") {
         show_larger(&rt, benefit)?;
     }
     Ok(())

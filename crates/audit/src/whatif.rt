@@ -20,11 +20,14 @@ pub fn show_what_if<L: Life>(
     let mut case = replayed(history);
     for seat in 0..SEATS {
         let letter = letter(seat);
-        if let Err(refusal) = case.test_suppose(seat) {
-            println!(rt; "  {letter}: {refusal}")?;
-            continue;
-        }
-        match value_supposing(&mut case, seat, benefit, rate, Route::Patterns) {
+        let answer = case.test_suppose(seat).and_then(|()| value_supposing(
+            &mut case,
+            seat,
+            benefit,
+            rate,
+            Route::Patterns,
+        ));
+        match answer {
             Ok(valuation) => {
                 let value = valuation.value;
                 println!(rt; "  {letter}: {value}")?;

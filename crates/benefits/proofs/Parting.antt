@@ -1,27 +1,16 @@
 -- How a text is parted into clauses.
-use Rattle.std.proofs.Common.{◌≡◌, ℕ, ◌+◌, ◌≤◌, Bool, true, false, eqb, List, [], ◌∷◌, ◌++◌, length, get_or, cond, refl, sym, ap, ◌∙◌, subst, arith, length-append, MatchBool}
-use Rattle.std.specs.List.{All, slice_split, onto_first, IsFirstMatchOrLen}
+use Rattle.std.proofs.Common.{◌≡◌, ℕ, ◌+◌, ◌≤◌, Bool, true, false, eqb, List, [], ◌∷◌, ◌++◌, length, get_or, cond, ap, ◌∙◌, subst, arith, length-append, MatchBool}
+use Rattle.std.specs.List.{All, slice_split, IsFirstMatchOrLen}
 use Rattle.std.proofs.lemmas.Grind.{common_steps}
 use Rattle.std.proofs.lemmas.List.Splits.{slice_split_at, slice_split_none}
-use Rattle.lines.specs.Pieces.{onto, pieces}
-
-onto_is : (b : ℕ) (ps : List (List ℕ)) → onto b ps ≡ onto_first b ps
-onto_is b [] = refl
-onto_is b (p ∷ ps) = refl
-
--- the pieces are what the library's `split` gives
-pub pieces_split : (stop : ℕ) (bs : List ℕ) → pieces stop bs ≡ slice_split (λ b. eqb b stop) bs
-pieces_split stop [] = refl
-pieces_split stop (b ∷ bs) =
-    let e = pieces_split stop bs in
-    λ i. cond (eqb b stop) ([] ∷ e i) ((onto_is b (pieces stop bs) ∙ ap (onto_first b) e) i)
+use Rattle.lines.specs.Pieces.{pieces}
 
 -- the clauses that `split` has left
 abbrev pub left : List ℕ → Bool → List (List ℕ)
 left rest done = cond done [] (slice_split (λ b. eqb b 59) rest)
 
 pub all_left : (text rest : List ℕ) (done : Bool) → rest ≡ text → done ≡ false → left rest done ≡ pieces 59 text
-all_left text rest done is more = (λ i. left (is i) (more i)) ∙ sym (pieces_split 59 text)
+all_left text rest done is more = λ i. left (is i) (more i)
 
 -- the part xs is the clause x and then the rest, or the last clause
 abbrev pub Part : List ℕ → List ℕ → List ℕ → Bool → Type 0

@@ -1,7 +1,7 @@
 -- Clauses one after another, and what they pay together.
-use Rattle.std.proofs.Common.{◌≡◌, ℕ, zero, suc, ◌+◌, ◌*◌, ◌<◌, ◌≤◌, ◌&&◌, leb, List, [], ◌∷◌, ◌++◌, length, get_or, replicate, Some, None, Ok, Err, Option, Result, sym, refl, ap, ◌∙◌, subst, ⊎_elim, append_assoc, append-nil, arith, length-append}
+use Rattle.std.proofs.Common.{◌≡◌, ℕ, ◌+◌, ◌*◌, ◌<◌, ◌≤◌, ◌&&◌, leb, List, [], ◌∷◌, ◌++◌, length, get_or, replicate, Some, None, Ok, Err, Option, Result, sym, refl, ap, ◌∙◌, subst, ⊎_elim, append_assoc, append-nil, arith, length-append}
 use lib.Bits.{bit_or}
-use Rattle.std.proofs.lemmas.List.{get_or_past}
+use Rattle.std.proofs.lemmas.List.{get_or_past, get_or-replicate}
 use Rattle.std.proofs.lemmas.List.Sums.{fold_push, sum_by_push, sum_by-cons}
 use Rattle.std.proofs.lemmas.Bool.{cases_lt, cond_both, and_parts, leb-true}
 use Rattle.patterns.specs.Seats.{patterns}
@@ -126,13 +126,8 @@ none_read texts p a = record {
   reached = refl;
   names = refl;
   long = refl;
-  pays = λ q h. zeros patterns q;
+  pays = λ q h. get_or-replicate patterns q 0 0 h;
 }
-  where
-    zeros : (n q : ℕ) → get_or {A = ℕ} (replicate n 0) q 0 ≡ 0
-    zeros zero q = refl
-    zeros (suc n) zero = refl
-    zeros (suc n) (suc q) = zeros n q
 
 abbrev pub Paired : {T F : Type 0} → Result T F → ℕ → Result T (Numbered F) → Type 0
 Paired r n s = elim r [ Ok x ↦ s ≡ Ok x | Err e ↦ s ≡ Err (record { number = n; fault = e }) ]

@@ -1,10 +1,11 @@
 -- How a fault is carried outward.
 use Rattle.std.specs.Prelude.{ℕ}
+use Rattle.refusals.specs.declared.Refusal.{Refusal}
 use Rattle.tokens.specs.declared.faults.TokenFault.{TokenFault}
 use Rattle.benefits.specs.declared.faults.PartFault.{PartFault}
 use Rattle.benefits.specs.declared.faults.ClauseFault.{ClauseFault}
 use Rattle.benefits.specs.declared.faults.BenefitFault.{BenefitFault}
-use Rattle.benefits.specs.declared.faults.BenefitFault.TheVariants.{Clause}
+use Rattle.benefits.specs.declared.faults.BenefitFault.TheVariants.{Refused, Clause}
 
 -- a token's fault in the part of the text that begins at the place n
 abbrev pub in_part : ℕ → TokenFault → PartFault
@@ -13,6 +14,10 @@ in_part n e = record { start = n; fault = e }
 -- a part's fault in the clause of number n
 abbrev pub in_clause : ℕ → PartFault → ClauseFault
 in_clause n e = record { clause = n; start = e.start; fault = e.fault }
+
+-- a refusal of the whole benefit
+abbrev pub in_whole : Refusal → BenefitFault
+in_whole e = Refused e
 
 -- a clause's fault as the benefit's
 abbrev pub in_benefit : ClauseFault → BenefitFault

@@ -1,6 +1,6 @@
 // One clause: its share and what its expression says.
 ghost use Rattle.std.specs.Prelude.{◌≡◌, ◌+◌, ◌^◌, ◌<◌, ◌≤◌, length};
-ghost use Rattle.expressions.specs.Verdict.{pending_room, answers_room};
+ghost use Rattle.expressions.specs.Verdict.{SameRoom, pending_room, answers_room};
 ghost use Rattle.benefits.specs.Clauses.{share_in, share_of, no_share, paid, ClauseVerdict};
 
 use crate::FULL;
@@ -41,8 +41,7 @@ impl Clause {
     // Reads a clause that begins at the place `at` of the clauses' text.
     pub(crate) fn read(text: &[u8], at: usize, lists: &mut Lists<'_>) -> Result<Clause, PartFault>
         requires { at + length text.now < 2 ^ 64 }
-        ensures pending { pending_room lists.new ≡ pending_room lists.old }
-        ensures answers { answers_room lists.new ≡ answers_room lists.old }
+        ensures room { SameRoom lists.old lists.new }
         ensures verdict { ClauseVerdict (share_of text.now) result at text.now (pending_room lists.old) (answers_room lists.old) }
     {
         let from = run_end(text, 0, Class::Space);

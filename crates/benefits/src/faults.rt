@@ -1,6 +1,6 @@
 // The fault of a token, carried whole into the fault of its clause and of its benefit.
 ghost use Rattle.std.specs.Prelude.{◌≡◌};
-ghost use Rattle.benefits.specs.Carried.{in_part, in_clause, in_benefit};
+ghost use Rattle.benefits.specs.Carried.{in_part, in_clause, in_whole, in_benefit};
 
 use refusals::Refusal;
 use tokens::faults::{Numbered, TokenFault};
@@ -48,6 +48,14 @@ impl From<Numbered<PartFault>> for ClauseFault {
             start: n.fault.start,
             fault: n.fault.fault,
         }
+    }
+}
+
+impl From<Refusal> for BenefitFault {
+    ghost from_gives = { λ e f. f ≡ in_whole e };
+
+    fn from(e: Refusal) -> BenefitFault {
+        BenefitFault::Refused(e)
     }
 }
 

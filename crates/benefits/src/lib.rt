@@ -8,3 +8,6 @@ mod sums;
 
 // The full share, in twentieths.
 const FULL: u32 = 20;
+
+// The most that a benefit pays.
+pub const MOST_AMOUNT: u32 = 500_000_000;

@@ -1,7 +1,7 @@
 -- The seats as supposed are as sound as the seats.
-use Rattle.std.proofs.Common.{◌≡◌, ℕ, zero, suc, ◌+◌, ◌<◌, ◌≤◌, Bool, false, cond, List, [], ◌∷◌, length, get_or, set, is_some, Some, None, Option, sym, refl, ap, ◌∙◌, subst, ap₂, ⊎_elim, arith}
-use Rattle.std.proofs.lemmas.Bool.{cases_lt, cases_eq, eq-eqb, ne_eqb, false≢true}
-use Rattle.std.proofs.lemmas.List.{get_or-set_same, get_or-set_other}
+use Rattle.std.proofs.Common.{◌≡◌, ℕ, ◌+◌, ◌<◌, ◌≤◌, Bool, false, cond, List, length, get_or, set, Some, None, Option, sym, refl, ap, ◌∙◌, subst, ap₂, ⊎_elim, arith}
+use Rattle.std.proofs.lemmas.Bool.{cases_lt, cases_eq, eq-eqb, ne_eqb}
+use Rattle.std.proofs.lemmas.List.{get_or-set_same, get_or-set_other, set_past}
 use Rattle.patterns.specs.Seats.{seats}
 use Rattle.patterns.specs.Anys.{is_member}
 use Rattle.seats.specs.declared.seat.Mark.TheVariants.{Failed}
@@ -9,17 +9,11 @@ use Rattle.seats.specs.declared.seat.Mark.{Mark}
 use Rattle.seats.specs.declared.seat.Seat.{Seat}
 use Rattle.seats.specs.Seats.{failed, is_empty, seat_at, present, Columns, Within}
 use Rattle.cases.specs.declared.inforce.InForce.{InForce}
-use Rattle.cases.specs.Book.{running, as_supposed, seen_mark}
+use Rattle.cases.specs.Book.{as_supposed, seen_mark}
 use Rattle.cases.specs.declared.inforce.view.View.{View}
 use Rattle.cases.specs.Weighing.{exposure_by, exposure_for, vacant_at}
-use Rattle.cases.specs.Views.{in_force_book, shown_book, book_of}
+use Rattle.cases.specs.Views.{book_of}
 use Rattle.cases.proofs.Sounds.{failed_columns, failed-within}
-
--- a seat past the last changes nothing
-set_past : {X : Type 0} (xs : List X) (i : ℕ) (y : X) → length xs ≤ i → set xs i y ≡ xs
-set_past [] i y h = refl
-set_past (x ∷ xs) zero y h = absurd (omega arith)
-set_past (x ∷ xs) (suc i) y h = λ k. x ∷ set_past xs i y (omega arith) k
 
 supposed_columns : (o : Option ℕ) (xs : List Seat) → Columns xs → Columns (as_supposed o xs)
 supposed_columns None xs c = c
@@ -77,11 +71,3 @@ shown_columns c = supposed_columns c.supposed c.table.seats c.columns
 
 pub shown_within : (c : InForce) → Within (present c.elapsed) (as_supposed c.supposed c.table.seats)
 shown_within c = supposed_within c.elapsed c.supposed c.table.seats c.within
-
--- where none stands, the weighings take the book itself
-pub shown_plain : (c : InForce) → is_some c.supposed ≡ false → shown_book c ≡ in_force_book c
-shown_plain c h = ap (λ (xs : List Seat). running xs c.elapsed) (go c.supposed c.table.seats h)
-  where
-    go : (o : Option ℕ) (xs : List Seat) → is_some o ≡ false → as_supposed o xs ≡ xs
-    go None xs h = refl
-    go (Some i) xs h = absurd (false≢true (sym h))

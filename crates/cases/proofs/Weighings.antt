@@ -1,6 +1,6 @@
 -- The exposures that a weight takes from sound seats, and the weight that they give.
-use Rattle.std.proofs.Common.{◌≡◌, ℕ, zero, suc, ◌+◌, ◌-◌, ◌*◌, ◌^◌, ◌<◌, ◌≤◌, Bool, true, false, cond, List, [], ◌∷◌, map, length, get_or, set, ◌≢◌, below_more, sym, refl, ap, ◌∙◌, subst, ap₂, ⊎_elim, le_trans, le_of_eq, add-zero, add-suc, mul-le-mul, mul-le-mul_left, add-one, arith, ext_get_or}
-use Rattle.std.proofs.lemmas.List.{get_or_past, get_or-set_same, get_or-set_other}
+use Rattle.std.proofs.Common.{◌≡◌, ℕ, zero, suc, ◌+◌, ◌-◌, ◌*◌, ◌^◌, ◌<◌, ◌≤◌, Bool, true, false, cond, List, [], ◌∷◌, map, length, get_or, sym, refl, ap, ◌∙◌, subst, ap₂, ⊎_elim, le_trans, le_of_eq, add-zero, add-suc, mul-le-mul, mul-le-mul_left, add-one, arith, ext_get_or}
+use Rattle.std.proofs.lemmas.List.{get_or_past, get_or-map, length-map}
 use Rattle.std.proofs.lemmas.Bool.{cases_lt}
 use Rattle.patterns.specs.Seats.{seats as number_of_seats}
 use Rattle.patterns.specs.Patterns.{Pattern, flags, number}
@@ -22,20 +22,6 @@ use Rattle.benefits.specs.Shares.{share}
 use Rattle.cases.specs.Book.{Book}
 use Rattle.cases.specs.Weighing.{exposure_by, exposure_for, exposures_for, weight_of, full_of}
 use Rattle.cases.specs.Routing.{present_of}
-
--- ---- one exposure a seat
-pub map_long : {X Y : Type 0} (f : X → Y) (xs : List X) → length (map f xs) ≡ length xs
-map_long f [] = refl
-map_long f (x ∷ xs) = ap suc (map_long f xs)
-
-pub map_at : {X Y : Type 0} (f : X → Y) (xs : List X) (i : ℕ) (d : X) (e : Y) → i < length xs → get_or (map f xs) i e ≡ f (get_or xs i d)
-map_at f [] i d e h = absurd (omega arith)
-map_at f (x ∷ xs) zero d e h = refl
-map_at f (x ∷ xs) (suc i) d e h = map_at f xs i d e (omega arith)
-
--- one place more is written as it should be
-pub written : {X : Type 0} (xs : List X) (i : ℕ) (v d : X) (F : ℕ → X) → i < length xs → v ≡ F i → ((k : ℕ) → k < i → get_or xs k d ≡ F k) → (k : ℕ) → k < i + 1 → get_or (set xs i v) k d ≡ F k
-written xs i v d F h e before = below_more _ _ (λ k q. let ne : k ≢ i = omega arith in get_or-set_other xs i k v d ne ∙ before k q) (get_or-set_same xs i v d h ∙ e)
 
 -- ---- counts never rise
 pub falls : (xs : List ℕ) (s t : ℕ) → ((u : ℕ) → get_or xs (u + 1) 0 ≤ get_or xs u 0) → get_or xs (s + t) 0 ≤ get_or xs s 0
@@ -59,7 +45,7 @@ module _ (b : Book) (columns : Columns b.seats) (within : Within (present b.elap
   all = exposures_for b t
 
   pub all_long : length (exposures_for b t) ≡ number_of_seats
-  all_long = map_long (exposure_for b.elapsed t) b.seats ∙ columns.0
+  all_long = length-map b.seats (exposure_for b.elapsed t) ∙ columns.0
 
   abbrev held : List Exposure
   held = kept (flags number_of_seats N) all
@@ -68,10 +54,10 @@ module _ (b : Book) (columns : Columns b.seats) (within : Within (present b.elap
   held_long = length-kept (flags number_of_seats N) all ∙ all_long
 
   at_seat : (i : ℕ) → i < length b.seats → exposure_at all i ≡ exposure_for b.elapsed t (seat_at b.seats i)
-  at_seat i h = map_at (exposure_for b.elapsed t) b.seats i _ _ h
+  at_seat i h = get_or-map (exposure_for b.elapsed t) b.seats i _ _ h
 
   inner : (i : ℕ) → i < length all → i < length b.seats
-  inner i h = omega (arith, map_long (exposure_for b.elapsed t) b.seats)
+  inner i h = omega (arith, length-map b.seats (exposure_for b.elapsed t))
 
   each : (Q : Exposure → Type 0) → Q lost → ((i : ℕ) → Q (exposure_for b.elapsed t (seat_at b.seats i))) → (i : ℕ) → i < length all → Q (exposure_at held i)
   each Q q h i k = kept-all Q q (flags number_of_seats N) all (λ j m. subst Q (sym (at_seat j (inner j m))) (h j)) i k
@@ -122,7 +108,7 @@ held_small b w t N =
 -- ---- what the route answers is the book's weight
 module _ (b : Book) (columns : Columns b.seats) (x : Benefit) (t : ℕ) where
   long : length (exposures_for b t) ≡ number_of_seats
-  long = map_long (exposure_for b.elapsed t) b.seats ∙ columns.0
+  long = length-map b.seats (exposure_for b.elapsed t) ∙ columns.0
 
   pub weight_is : by_patterns (kept (flags number_of_seats x.named) (exposures_for b t)) (λ P. share x (number P)) ≡ weight_of b x t
   unfolding weight_of

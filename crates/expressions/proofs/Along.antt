@@ -1,7 +1,7 @@
 -- How far the reader has come.
-use Rattle.std.proofs.Common.{◌≡◌, ℕ, zero, suc, ◌+◌, ◌<◌, ◌≤◌, List, [], ◌∷◌, ◌++◌, length, get_or, take, Ok, Err, Result, sym, refl, ap, ◌∙◌, subst, arith, take_all}
+use Rattle.std.proofs.Common.{◌≡◌, ℕ, ◌+◌, ◌<◌, ◌≤◌, List, [], ◌∷◌, ◌++◌, length, get_or, map, take, Ok, Err, Result, sym, refl, ap, ◌∙◌, subst, arith, take_all}
 use lib.Bits.{bit_or}
-use Rattle.std.proofs.lemmas.List.{take_more, length-map, map-append, take-map}
+use Rattle.std.proofs.lemmas.List.{take_more, length-map, map-append, take-map, get_or-map, get_or_past}
 use Rattle.std.proofs.lemmas.List.Sums.{fold_push}
 use Rattle.tokens.specs.declared.Token.{Token}
 use Rattle.expressions.specs.declared.Reader.{Reader}
@@ -10,7 +10,7 @@ use Rattle.expressions.specs.Layout.{words_in, masks_in, Fits}
 use Rattle.expressions.specs.Moves.{Moved, Stuck, wrong, Finished}
 use Rattle.tokens.specs.Letters.{seats_of}
 use Rattle.expressions.specs.States.{State, start, Ends, ends}
-use Rattle.expressions.specs.Verdict.{codes_of, place_of, Verdict}
+use Rattle.expressions.specs.Verdict.{codes_of, Verdict}
 use Rattle.expressions.proofs.Moving.{step_words, step-masks}
 use Rattle.expressions.proofs.Names.{named_in, named_is}
 use Rattle.expressions.proofs.Whole.{Stands, at_first, stands_more, viable, stuck, says_end, end_says}
@@ -43,21 +43,6 @@ along_more ts i r r' t lt is h m named =
       named_so = named ∙ ap (λ n. bit_or n (seats_of t.code)) h.named_so ∙ sym (ap named_in more ∙ fold_push (λ n c. bit_or n (seats_of c)) 0 (codes_of (take i ts)) t.code);
     }
 
-place_at : (ts : List Token) (end i : ℕ) (d : Token) → i < length ts → place_of ts end i ≡ (get_or ts i d).place
-place_at [] end i d h = absurd (omega arith)
-place_at (t ∷ ts) end zero d h = refl
-place_at (t ∷ ts) end (suc i) d h = place_at ts end i d (omega arith)
-
-place_past : (ts : List Token) (end i : ℕ) → length ts ≤ i → place_of ts end i ≡ end
-place_past [] end i h = refl
-place_past (t ∷ ts) end zero h = absurd (omega arith)
-place_past (t ∷ ts) end (suc i) h = place_past ts end i (omega arith)
-
-pub get_d_any : {A : Type 0} (xs : List A) (i : ℕ) (d e : A) → i < length xs → get_or xs i d ≡ get_or xs i e
-get_d_any [] i d e h = absurd (omega arith)
-get_d_any (x ∷ xs) zero d e h = refl
-get_d_any (x ∷ xs) (suc i) d e h = get_d_any xs i d e (omega arith)
-
 pub along_none : (ts : List Token) (r : Reader) → words_in r ≡ [] → masks_in r ≡ [] → r.expect ≡ expect.Operand → r.named ≡ 0 → Along ts 0 r
 along_none ts r w m e n = record {
   state = start;
@@ -78,7 +63,7 @@ fault_at ts i end r t e lt is h what none = (
     there = λ _ v. stuck (codes_of (take i ts)) h.state t.code h.stands none (subst Viable (take-map (λ x. x.code) (i + 1) ts ∙ codes_more ts i t lt is) v);
     at_end = λ z. absurd (omega (arith, length-map ts (λ x. x.code)));
   },
-  what ∙ ap wrong (ap (λ x. x.place) is ∙ sym (place_at ts end i t lt)),
+  what ∙ ap wrong (ap (λ x. x.place) is ∙ sym (get_or-map (λ x. x.place) ts i t end lt)),
 )
 
 one_end : {s : State} {t t' : Tree} → Ends s t → Ends s t' → t' ≡ t
@@ -107,5 +92,5 @@ at_the_end ts i end r (Err e) ge le h f =
         there = λ lt _. absurd (omega (arith, length-map ts (λ x. x.code)));
         at_end = λ z t said. f.1 t (end_says _ _ t s said);
       },
-      f.0 ∙ ap wrong (sym (place_past ts end i ge)),
+      f.0 ∙ ap wrong (sym (get_or_past (map (λ x. x.place) ts) i end (omega (arith, length-map ts (λ x. x.place))))),
     )

@@ -1,24 +1,11 @@
 -- Sets of seats as numbers: unions, intersections, and what lies within what.
-use Rattle.std.proofs.Common.{◌≡◌, ℕ, zero, suc, ◌/◌, ◌%◌, ◌≤◌, max, sym, ap, ◌∙◌, arith}
-use lib.Bits.{bit_and, bit_or, or_step, or_shr, or_zero_l, and_comm, or_comm}
+use Rattle.std.proofs.Common.{◌≡◌, ℕ, sym, ap, ◌∙◌, arith}
+use lib.Bits.{bit_and, bit_or, and_comm, or_comm}
 use Rattle.std.proofs.lemmas.Nat.{and_assoc, and_or_self}
-
-or_half : (a b : ℕ) → bit_or a b / 2 ≡ bit_or (a / 2) (b / 2)
-or_half a b = or_shr a b 1
-
-or_odd : (a b : ℕ) → bit_or a b % 2 ≡ max (a % 2) (b % 2)
-or_odd a b = omega (arith, or_step a b)
-
-or_assoc_to : (k a b c : ℕ) → a ≤ k → bit_or (bit_or a b) c ≡ bit_or a (bit_or b c)
-or_assoc_to zero a b c h =
-    let none : a ≡ 0 = omega arith in
-    rw none (ap (λ x. bit_or x c) (or_zero_l b) ∙ sym (or_zero_l (bit_or b c)))
-or_assoc_to (suc k) a b c h =
-    let e : bit_or ((bit_or a b) / 2) (c / 2) ≡ bit_or (a / 2) ((bit_or b c) / 2) = ap (λ x. bit_or x (c / 2)) (or_half a b) ∙ or_assoc_to k (a / 2) (b / 2) (c / 2) (omega arith) ∙ ap (bit_or (a / 2)) (sym (or_half b c)) in
-    omega (arith, or_step (bit_or a b) c, or_step a (bit_or b c), e, or_odd a b, or_odd b c)
+use Rattle.std.proofs.lemmas.Nat.Bits.{bit_at_or, same_from_bits}
 
 pub or_assoc : (a b c : ℕ) → bit_or (bit_or a b) c ≡ bit_or a (bit_or b c)
-or_assoc a b c = or_assoc_to a a b c (omega arith)
+or_assoc a b c = same_from_bits _ _ (λ i. omega (arith, bit_at_or (bit_or a b) c i, bit_at_or a b i, bit_at_or a (bit_or b c) i, bit_at_or b c i))
 
 -- each set lies within its union with another
 pub absorb : (a b : ℕ) → bit_and a (bit_or a b) ≡ a

@@ -41,12 +41,18 @@ abbrev pub Verdict : Result Reading TokenFault → List Token → ℕ → Type 0
 Verdict (Ok x) ts end = Read x (codes_of ts)
 Verdict (Err e) ts end = (i : ℕ) × FirstWrong (codes_of ts) i × (e ≡ wrong (place_of ts end i))
 
--- how many places there are for pending words, and for answers
+-- how many places there are for pending words
 abbrev pub pending_room : Lists → ℕ
 pending_room l = length l.pending.now
 
+-- how many places there are for answers
 abbrev pub answers_room : Lists → ℕ
 answers_room l = length l.answers.now
+
+-- as many places in both lists as before
+pub record SameRoom (before after : Lists) : Type 0 where
+  pub pending : pending_room after ≡ pending_room before
+  pub answers : answers_room after ≡ answers_room before
 
 -- the verdict on a text's tokens, or the fault of the cut, which comes first
 abbrev pub SaidOf : Result (List Token) TokenFault → Result Reading TokenFault → ℕ → Type 0

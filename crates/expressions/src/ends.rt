@@ -1,6 +1,5 @@
 // The end of the text.
-ghost use Rattle.std.specs.Prelude.{◌≡◌, ◌<◌};
-ghost use Rattle.stacks.specs.Items.{room};
+ghost use Rattle.std.specs.Prelude.{◌≡◌};
 ghost use Rattle.expressions.specs.Layout.{words_in, Fits, is_nil};
 ghost use Rattle.expressions.specs.Moves.{Finished};
 ghost use Rattle.expressions.specs.States.{State};
@@ -19,7 +18,6 @@ impl Reader<'_> {
 
     // The end of the text, at the place `end`.
     pub(crate) fn finish(&mut self, end: usize) -> Result<Reading, TokenFault>
-        requires { 0 < room self.old.answers }
         ensures { (s : State) → Fits s self.old → Finished result s end self.old.named }
     {
         let Expect::Operator = self.expect else {

@@ -40,7 +40,7 @@ impl Group {
         let mut mask = 0;
         for pattern in 0..PATTERNS as u8 {
             if self.holds(set, pattern) {
-                mask += 1 << pattern;
+                mask |= 1 << pattern;
             }
         }
         mask

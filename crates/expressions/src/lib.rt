@@ -1,6 +1,9 @@
 // Reads an expression by operator precedence, over two stacks in lent memory.
 #![tactic(auto)]
 
+ghost use Rattle.std.specs.Prelude.{◌<◌};
+ghost use Rattle.stacks.specs.Items.{room};
+
 mod answers;
 mod cut;
 mod ends;
@@ -18,8 +21,10 @@ use stacks::Stack;
 pub const MOST_TOKENS: usize = 64;
 
 // A word that waits for an operand to its right.
-#[derive(Clone, Copy, PartialEq, Eq)]
+#[derive(Clone, Copy, PartialEq, Eq, Default)]
 pub enum Word {
+    // The default is only a blank.
+    #[default]
     Or,
     And,
     Not,
@@ -27,7 +32,7 @@ pub enum Word {
 }
 
 // A waiting word, and the place of its first byte in the text.
-#[derive(Clone, Copy)]
+#[derive(Clone, Copy, Default)]
 pub struct Pending {
     pub word: Word,
     pub place: usize,
@@ -67,6 +72,7 @@ pub struct Reader<'a> {
     answers: Stack<'a, u16>,
     expect: Expect,
     named: u8,
+    ghost roomy: { 0 < room answers },
 }
 
 // What an expression says.

@@ -9,7 +9,7 @@ use tokens::faults::TokenFault;
 // Why a text cannot be read.
 #[derive(Clone, Copy)]
 pub enum ReadFault {
-    // A list has fewer than 64 places
+    // A list has fewer than 64 places.
     Short,
     Token(TokenFault),
 }

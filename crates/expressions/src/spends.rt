@@ -62,7 +62,6 @@ impl Reader<'_> {
 
     // A term is complete: joins it to the terms before it.
     pub(crate) fn join(&mut self)
-        requires { 0 < room self.old.answers }
         ensures kept { Kept self.old self.new }
         ensures words { words_in self.new ≡ join_words (words_in self.old) }
         ensures masks { masks_in self.new ≡ join_masks (words_in self.old) (masks_in self.old) }

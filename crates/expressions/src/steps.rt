@@ -36,7 +36,6 @@ impl Reader<'_> {
 
     // The expression so far is in parentheses.
     fn close(&mut self)
-        requires { 0 < room self.old.answers }
         ensures kept { Kept self.old self.new }
         ensures words { words_in self.new ≡ complete_words (rest (words_in self.old)) }
         ensures masks { masks_in self.new ≡ complete_masks (rest (words_in self.old)) (rest (masks_in self.old)) (top (masks_in self.old)) }

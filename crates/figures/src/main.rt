@@ -5,7 +5,6 @@ use annuities::pricing::Pricing;
 use benefits::benefit::Benefit;
 use cases::enrolling::Enrolling;
 use cases::inforce::InForce;
-use expressions::{Pending, Word};
 use lives::demoivre::DeMoivre;
 use refusals::Refusal;
 use routes::route::Route;
@@ -14,42 +13,37 @@ use std::io;
 // The rate of the factors: 5.00% a year.
 const RATE: u32 = 500;
 
-// One answer after its name, or why there is none.
-fn show(rt: &HostRuntime, name: &str, answer: Result<u64, Refusal>) -> io::Result<()> {
+// What a route answers, or why there is nothing.
+fn show(rt: &HostRuntime, route: Route, answer: Result<u64, Refusal>) -> io::Result<()> {
     match answer {
-        Ok(number) => println!(rt; "    {name}: {number}"),
+        Ok(number) => println!(rt; "    {route}: {number}"),
         Err(refusal) => {
             let code = refusal.code();
-            println!(rt; "    {name}: refused with {code}, {refusal}")
+            println!(rt; "    {route}: refused with {code}, {refusal}")
         }
     }
 }
 
-// The routes, and how each is printed.
-const ROUTES: [(Route, &str); 3] = [
-    (Route::Patterns, "by patterns"),
-    (Route::Subsets, "by subsets"),
-    (Route::Counts, "by counts"),
-];
+const ROUTES: [Route; 3] = [Route::Patterns, Route::Subsets, Route::Counts];
 
 // The weights for the first years, and the factor.
 fn show_routes(rt: &HostRuntime, case: &InForce, benefit: &Benefit) -> io::Result<()> {
     for year in 0..5 {
         println!(rt; "  year {year}")?;
-        for (route, name) in ROUTES {
+        for route in ROUTES {
             let weight = case.weigh(benefit, year, route);
-            show(rt, name, weight.map(|weight| weight.weight))?;
+            show(rt, route, weight.map(|weight| weight.weight))?;
         }
     }
     println!(rt; "  factor at {RATE}")?;
-    for (route, name) in ROUTES {
+    for route in ROUTES {
         let pricing = Pricing {
             view: case.as_supposed(),
             benefit,
             rate: RATE,
             route,
         };
-        show(rt, name, pricing.factor())?;
+        show(rt, route, pricing.factor())?;
     }
     Ok(())
 }
@@ -74,12 +68,7 @@ fn show_counts(rt: &HostRuntime, case: &InForce, benefit: &Benefit) -> io::Resul
 // All figures of one benefit.
 fn show_benefit(rt: &HostRuntime, case: &InForce, text: &str) -> io::Result<()> {
     println!(rt; "{text}")?;
-    let mut pending = [Pending {
-        word: Word::Or,
-        place: 0,
-    }; 64];
-    let mut answers = [0u16; 64];
-    match Benefit::read(1, text.as_bytes(), &mut pending, &mut answers) {
+    match Benefit::parse(1, text.as_bytes()) {
         Ok(benefit) => {
             show_routes(rt, case, &benefit)?;
             show_counts(rt, case, &benefit)

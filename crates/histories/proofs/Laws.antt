@@ -1,5 +1,5 @@
 -- The law of a case in force, from what its answers and the invariants of its seats say.
-use Rattle.std.proofs.Common.{◌≡◌, ℕ, ◌<◌, ◌≤◌, Bool, true, false, cond, Ok, Err, Result, sym, refl, ap, ◌∙◌, subst, ap₂, ⊎_elim}
+use Rattle.std.proofs.Common.{◌≡◌, ℕ, ◌≤◌, Bool, true, false, cond, Ok, Err, Result, refl, ap, ◌∙◌, subst, ap₂, ⊎_elim}
 use Rattle.std.proofs.lemmas.Bool.{cases_Bool, le-ltb}
 use Rattle.refusals.specs.declared.Refusal.{Refusal}
 use Rattle.refusals.specs.declared.Refusal.TheVariants.{Number, Uneven, Vacant, Year}
@@ -18,7 +18,7 @@ use Rattle.cases.specs.Weighing.{weight_of, vacant_at, vacancy}
 use Rattle.cases.specs.Routing.{ByNumber, judge_route, judge_routed}
 use Rattle.annuities.specs.Values.{accepted, yearly_of, factored, CutOf}
 use Rattle.histories.specs.declared.calls.Account.{Account}
-use Rattle.histories.specs.Law.{Accepted, Routes, FactorCut, Factors, WorkedBy, Answered}
+use Rattle.histories.specs.Law.{Accepted, Routes, FactorCut, Factors, Answered}
 
 -- ---- a benefit that is accepted
 one-accepted : (n e : Bool) → (n ≡ true → e ≡ false) → cond n e false ≡ false

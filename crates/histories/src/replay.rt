@@ -30,6 +30,7 @@ fn look(case: &InForce, next: Look) {
 }
 
 // Supposes a seat failed, looks at the case, and ends the supposition.
+#[tactic(auto, using(cases::proofs::SameCase::same_case))]
 fn suppose(case: &mut InForce, seat: usize, looks: &[Look])
     ensures { case.new ≡ case.old }
 {

@@ -1,11 +1,7 @@
 -- Text that is parted by a byte.
 use Rattle.std.specs.Prelude.{◌≡◌, ℕ, List, [], ◌∷◌, ◌==◌, ◌≢◌}
-use Rattle.std.specs.List.{AllByRecursion, onto_first, slice_split}
+use Rattle.std.specs.List.{AllByRecursion, slice_split}
 use Rattle.writing.specs.Printed.{spaced}
-
--- a byte before the first piece
-abbrev pub onto : ℕ → List (List ℕ) → List (List ℕ)
-onto c ps = onto_first c ps
 
 -- what lies between the stops of a text, and before the first and after the last
 abbrev pub pieces : ℕ → List ℕ → List (List ℕ)

@@ -17,8 +17,6 @@ pub fn cut(rest: &[u8]) -> (&[u8], &[u8])
 
 // What the fields of a line are.
 #[tactic(auto, using(crate::proofs::Cutting::fields_stand))]
-pub fn fields_stand() -> u8
+pub fn fields_stand()
     ensures { FieldsStand }
-{
-    0
-}
+{}

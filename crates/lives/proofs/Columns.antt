@@ -57,19 +57,23 @@ pub column_from : (f : ℕ → ℕ) (xs : List ℕ) → length xs ≡ 121 → ((
 unfolding column
 column_from f xs long at = fill_by_all f xs 121 0 long at
 
--- what a function gives at each year in turn
-module _ {F : Type 0} (g : Mut F (ℕ × Unit {0}) ℕ) (f : ℕ → ℕ) (start : F) (gives : (i y : ℕ) (q : F) → Called g start (i, tt) y q → (y ≡ f i) × (q ≡ start)) where
-  made_each : (ys : List ℕ) (i n : ℕ) → IsFromFnResultFrom g start ys i n → (k : ℕ) → k < n → get_or ys (i + k) 0 ≡ f (i + k)
-  made_each ys i zero _ k h = elim h [ ]
-  made_each ys i (suc n) (q, y, here, call, rest) zero h = let e = gives i y q call in rw add-zero (here.1 0 ∙ e.0)
-  made_each ys i (suc n) (q, y, here, call, rest) (suc k) h =
-      let e = gives i y q call in
+-- what a closure gives at each place of a new array
+module _ {A F : Type 0} (g : Mut F (ℕ × Unit {0}) A) (f : ℕ → A) (start : F) (d : A) (m : ℕ) (gives : (i : ℕ) → i < m → (y : A) (q : F) → Called g start (i, tt) y q → (y ≡ f i) × (q ≡ start)) where
+  made_from : (ys : List A) (i n : ℕ) → i + n ≤ m → IsFromFnResultFrom g start ys i n → (k : ℕ) → k < n → get_or ys (i + k) d ≡ f (i + k)
+  made_from ys i zero b _ k h = elim h [ ]
+  made_from ys i (suc n) b (q, y, here, call, rest) zero h = let e = gives i (omega arith) y q call in rw add-zero (here.1 d ∙ e.0)
+  made_from ys i (suc n) b (q, y, here, call, rest) (suc k) h =
+      let e = gives i (omega arith) y q call in
       let next = subst (λ (p : F). IsFromFnResultFrom g p ys (i + 1) n) e.1 rest in
-      let m : i + 1 + k ≡ i + suc k = omega arith in
-      rw m at (made_each ys (i + 1) n next k (omega arith))
+      let on : i + 1 + k ≡ i + suc k = omega arith in
+      rw on at (made_from ys (i + 1) n (omega arith) next k (omega arith))
 
-  pub column_made : (ys : List ℕ) → IsFromFnResult g start ys 121 → ys ≡ column f
-  column_made ys made = column_from f ys made.long (λ k h. let e : 0 + k ≡ k = omega arith in rw e at (made_each ys 0 121 made.each k h))
+  pub made_each : (ys : List A) → IsFromFnResult g start ys m → (i : ℕ) → i < m → get_or ys i d ≡ f i
+  made_each ys made i h = let e : 0 + i ≡ i = omega arith in rw e at (made_from ys 0 m (omega arith) made.each i h)
+
+-- what a function gives at each year in turn
+pub column_made : {F : Type 0} (g : Mut F (ℕ × Unit {0}) ℕ) (f : ℕ → ℕ) (start : F) → ((i : ℕ) (y : ℕ) (q : F) → Called g start (i, tt) y q → (y ≡ f i) × (q ≡ start)) → (ys : List ℕ) → IsFromFnResult g start ys 121 → ys ≡ column f
+column_made g f start gives ys made = column_from f ys made.long (made_each g f start 0 121 (λ i h. gives i) ys made)
 
 -- the column of counts that end by year 121 has them at every year
 pub column-all : (f : ℕ → ℕ) → ((t : ℕ) → 121 ≤ t → f t ≡ 0) → (t : ℕ) → get_or (column f) t 0 ≡ f t

@@ -1,7 +1,6 @@
 // A basis by a list of counts.
 ghost use Rattle.std.specs.Prelude.{◌≡◌, ℕ, ◌+◌, ◌≤◌, true, false, length, replicate, MatchResult, slice_index};
 ghost use Rattle.refusals.specs.declared.Refusal.TheVariants.{Counts};
-ghost use Rattle.lives.specs.Column.{column};
 ghost use Rattle.lives.specs.Counts.{listed};
 ghost use Rattle.lives.specs.Tables.{Fair, fairly};
 ghost use Rattle.std.proofs.Common.{subst, sym};

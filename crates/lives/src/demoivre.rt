@@ -1,11 +1,11 @@
 // A basis that falls by the same step each year, until nobody is left.
-ghost use Rattle.std.specs.Prelude.{◌≡◌, ℕ, ◌+◌, ◌-◌, ◌*◌, ◌<◌, ◌≤◌, MatchResult};
+ghost use Rattle.std.specs.Prelude.{◌≡◌, ℕ, ◌*◌, ◌≤◌, MatchResult};
 ghost use Rattle.refusals.specs.declared.Refusal.TheVariants.{Limit};
 ghost use Rattle.lives.specs.Counts.{straight};
 ghost use Rattle.std.proofs.Common.{◌∙◌, ap, mul-zero};
 ghost use Rattle.std.proofs.Math.Nat.{mul-le-mul_left, le_trans, le-add_right, sub-le, sub-le-sub_left, sub-eq-zero_of_le};
 
-use crate::life::{Life, MOST};
+use crate::life::{Life, MOST, YEARS};
 use refusals::Refusal;
 
 #[derive(Drop)]
@@ -28,7 +28,7 @@ impl DeMoivre {
     pub fn load(&mut self, years: u32, step: u32) -> Result<(), Refusal>
         ensures { MatchResult result (λ _. (years ≤ 120) × (step * years ≤ 1000000) × (self.new.years ≡ years) × (self.new.step ≡ step)) (λ e. (e ≡ Limit) × (years ≤ 120 → step * years ≤ 1000000 → ⊥) × (self.new ≡ self.old)) }
     {
-        if years > 120 || u64::from(step) * u64::from(years) > u64::from(MOST) {
+        if years as usize >= YEARS || u64::from(step) * u64::from(years) > u64::from(MOST) {
             return Err(Refusal::Limit);
         }
         self.years = years;

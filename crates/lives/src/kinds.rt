@@ -1,9 +1,6 @@
 // A life of one of two kinds, so that one history can have lives of both.
-ghost use Rattle.std.specs.Prelude.{◌≡◌, ℕ, ◌+◌, ◌≤◌};
 ghost use Rattle.either.specs.Either.{either};
 ghost use Rattle.either.specs.declared.Either.TheVariants.{Left, Right};
-ghost use Rattle.lives.specs.Column.{column};
-ghost use Rattle.std.proofs.Common.{rules};
 
 use crate::life::{Life, YEARS};
 use either::Either;

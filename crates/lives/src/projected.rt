@@ -1,13 +1,15 @@
 // An adjustment: a life whose deaths are scaled year by year.
-ghost use Rattle.std.specs.Prelude.{◌≡◌, ℕ, ◌+◌, ◌-◌, ◌*◌, ◌<◌, ◌≤◌, length, replicate, if◌then◌else◌, MatchResult, nat_lt, slice_index, slice_set};
+ghost use Rattle.std.specs.Prelude.{◌≡◌, ℕ, ◌<◌, ◌≤◌, length, replicate, if◌then◌else◌, MatchResult, nat_lt, slice_index, slice_set};
 ghost use Rattle.refusals.specs.declared.Refusal.TheVariants.{Limit, Year};
-ghost use Rattle.lives.specs.Column.{column};
 ghost use Rattle.lives.specs.Projection.{deaths, projected, entries};
 ghost use Rattle.std.proofs.Common.{le_trans};
 ghost use Rattle.lives.specs.Projections.{projected_le, projected-falls, projected_ended};
 
 use crate::life::{Life, YEARS};
 use refusals::Refusal;
+
+// The most that a factor can be.
+const MOST_FACTOR: u32 = 10_000;
 
 // The factors of years 0 to 120, in thousandths.
 #[derive(Drop)]
@@ -48,10 +50,10 @@ impl<L: Life> Projected<L> {
     pub fn scale(&mut self, year: u32, factor: u32) -> Result<(), Refusal>
         ensures { MatchResult result (λ _. (year ≤ 120) × (factor ≤ 10000) × (self.new.life ≡ self.old.life) × (self.new.factors ≡ slice_set self.old.factors year factor)) (λ e. (e ≡ (if nat_lt 120 year then Year else Limit)) × (year ≤ 120 → 10000 < factor) × (self.new ≡ self.old)) }
     {
-        if year > 120 {
+        if year as usize >= YEARS {
             return Err(Refusal::Year);
         }
-        if factor > 10_000 {
+        if factor > MOST_FACTOR {
             return Err(Refusal::Limit);
         }
         self.factors[year as usize] = factor;
@@ -62,7 +64,7 @@ impl<L: Life> Projected<L> {
     pub fn scale_all(&mut self, factor: u32) -> Result<(), Refusal>
         ensures { MatchResult result (λ _. (factor ≤ 10000) × (self.new.life ≡ self.old.life) × (self.new.factors ≡ replicate 121 factor)) (λ e. (e ≡ Limit) × (10000 < factor) × (self.new ≡ self.old)) }
     {
-        if factor > 10_000 {
+        if factor > MOST_FACTOR {
             return Err(Refusal::Limit);
         }
         self.factors.fill(factor);

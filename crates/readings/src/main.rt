@@ -1,7 +1,7 @@
 // Reads each line of standard input as an expression, and prints what it says or where it is at fault.
 #![tactic(auto)]
 
-use expressions::{MOST_TOKENS, Pending, ReadFault, Reading, Word, read};
+use expressions::{MOST_TOKENS, Pending, ReadFault, Reading, read};
 use std::io;
 use std::io::{BufRead, Read};
 use tokens::faults::TokenFault;
@@ -11,11 +11,8 @@ const INPUT: u64 = 65_536;
 
 // Prints what one expression says.
 fn show(rt: &HostRuntime, text: &[u8]) -> io::Result<()> {
-    let waiting = Pending {
-        word: Word::Or,
-        place: 0,
-    };
-    match read(text, &mut [waiting; MOST_TOKENS], &mut [0; MOST_TOKENS]) {
+    let mut pending = [Pending::default(); MOST_TOKENS];
+    match read(text, &mut pending, &mut [0; MOST_TOKENS]) {
         Ok(Reading { answers, named }) => println!(rt; "ok {answers} {named}"),
         Err(ReadFault::Short) => println!(rt; "short"),
         Err(ReadFault::Token(TokenFault { refusal, place })) => {

@@ -1,11 +1,12 @@
 -- The loops over the patterns within the named seats, by the number alive.
-use Rattle.std.proofs.Common.{◌≡◌, ℕ, zero, suc, ◌+◌, ◌^◌, ◌<◌, ◌≤◌, Bool, true, false, cond, ◌&&◌, eqb, ◌≢◌, List, length, get_or, set, replicate, sym, refl, ap, ◌∙◌, subst, ap₂, add-one, arith, length-set, get_or-set_other, get_or-set_same, eq-eqb, ne_eqb}
+use Rattle.std.proofs.lemmas.Nat.{ones-le}
+use Rattle.std.proofs.Common.{◌≡◌, ℕ, zero, suc, ◌+◌, ◌^◌, ◌<◌, Bool, true, false, cond, ◌&&◌, eqb, ◌≢◌, List, length, get_or, set, replicate, sym, refl, ap, ◌∙◌, subst, ap₂, add-one, arith, length-set, get_or-set_other, get_or-set_same, eq-eqb, ne_eqb}
 use native.Mathlib.Decide.{ℕ_discrete}
 use lib.Bits.{bit_and}
 use lib.Count.{ones}
 use Rattle.std.proofs.lemmas.List.{length-replicate}
 use Rattle.patterns.specs.Patterns.{flags, size, within}
-use Rattle.patterns.proofs.Masks.{within_mask, ones_size, size_le, length-flags}
+use Rattle.patterns.proofs.Masks.{within_mask, ones_size}
 use Rattle.weights.specs.Numbers.{has_alive, share_below}
 
 -- ---- the tests of the code
@@ -16,9 +17,6 @@ pub inside_no : (n N p : ℕ) → p < 2 ^ n → bit_and p N ≢ p → within (fl
 inside_no n N p h e = within_mask n p N h ∙ ne_eqb (bit_and p N) p e
 
 -- no more are alive than there are seats
-pub ones_le : (n p : ℕ) → p < 2 ^ n → ones p ≤ n
-ones_le n p h = omega (arith, ones_size n p h, size_le (flags n p), length-flags n p)
-
 -- ---- the share of each number alive, among the patterns below m
 pub record Tabled (n : ℕ) (f : ℕ → ℕ) (N m : ℕ) (xs : List ℕ) : Type 0 where
   pub long : length xs ≡ n + 1
@@ -50,7 +48,7 @@ module _ {n : ℕ} {f : ℕ → ℕ} {N m : ℕ} {xs : List ℕ} (r : Tabled n f
     where
       go : (k : ℕ) → Dec (k ≡ ones m) → get_or (set xs (ones m) (f m)) k 0 ≡ share_below n f N (m + 1) k
       go k (yes e) =
-          let lt : ones m < length xs = omega (arith, ones_le n m h, r.long) in
+          let lt : ones m < length xs = omega (arith, ones-le n m h, r.long) in
           ap (λ (j : ℕ). get_or (set xs (ones m) (f m)) j 0) e
           ∙ rw get_or-set_same (sym (next n f N m k true (ap₂ ◌&&◌ (inside-yes n N m h i) (eq-eqb (size (flags n m)) k (sym (ones_size n m h) ∙ sym e)))))
       go k (no d) =

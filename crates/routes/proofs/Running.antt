@@ -1,5 +1,6 @@
--- A product over the seats, as a loop makes it: one seat after another, the set's number halved for each.
+-- A product over the seats, one seat after another: what is left of the set is its number halved for each.
 use Rattle.std.proofs.Common.{◌≡◌, ℕ, zero, suc, ◌+◌, ◌*◌, ◌/◌, ◌%◌, ◌^◌, ◌<◌, ◌≤◌, eqb, List, [], ◌∷◌, length, drop, sym, refl, ap, ◌∙◌, subst, add-one, arith, drop-cons}
+use Rattle.std.proofs.lemmas.List.{drop_all}
 use native.Mathlib.Nat as NatL
 use Rattle.patterns.specs.Patterns.{flags}
 use Rattle.weights.specs.declared.exposure.Exposure.{Exposure}
@@ -74,15 +75,11 @@ module _ {x y : Exposure → ℕ} {ls : List Exposure} {p i product rest : ℕ} 
   pub leave_out : rest % 2 ≡ 0 → y (seat_at ls i) ≤ (seat_at ls i).present → Running x y ls p (i + 1) (product * y (seat_at ls i)) (rest / 2)
   leave_out e g = rw add-one (record { value = value_out x y product rest _ at t e value_here; bound = bound_step product (y at) at t (D ls) g bound_here })
 
-drop_all : (ls : List Exposure) → drop (length ls) ls ≡ []
-drop_all [] = refl
-drop_all (l ∷ ls) = drop_all ls
-
 pub done : (x y : Exposure → ℕ) (ls : List Exposure) (p product rest : ℕ) → Running x y ls p (length ls) product rest → (product ≡ times x y ls (flags (length ls) p)) × (product ≤ D ls)
 unfolding times D
 done x y ls p product rest r =
-    let v : product * 1 ≡ times x y ls (flags (length ls) p) = subst (λ (xs : List Exposure). product * times x y xs (flags (length xs) rest) ≡ times x y ls (flags (length ls) p)) (drop_all ls) r.value in
-    let b : product * 1 ≤ D ls = subst (λ (xs : List Exposure). product * D xs ≤ D ls) (drop_all ls) r.bound in
+    let v : product * 1 ≡ times x y ls (flags (length ls) p) = subst (λ (xs : List Exposure). product * times x y xs (flags (length xs) rest) ≡ times x y ls (flags (length ls) p)) (drop_all (length ls) ls (omega arith)) r.value in
+    let b : product * 1 ≤ D ls = subst (λ (xs : List Exposure). product * D xs ≤ D ls) (drop_all (length ls) ls (omega arith)) r.bound in
     (sym (NatL.mul-one product) ∙ v, omega arith)
 
 -- the product of the set of no seat is that of the present counts

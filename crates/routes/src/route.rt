@@ -1,12 +1,14 @@
 // The choice of a route.
-ghost use Rattle.std.specs.Prelude.{◌≡◌, ◌*◌, pos, slice_index};
+ghost use Rattle.std.specs.Prelude.{◌≡◌, ◌*◌, Some, pos, slice_index};
 ghost use Rattle.weights.specs.Exposures.{D};
 ghost use Rattle.routes.specs.Routes.{route_over, answer_over};
+ghost use Rattle.routes.specs.Words.{words};
 
 use crate::by_counts::by_counts;
 use crate::by_number::shares_by_number;
 use crate::by_subsets::by_subsets;
 use patterns::Shares;
+use std::fmt;
 use weights::by_patterns::by_patterns;
 use weights::exposures::Exposures;
 use weights::weight::Weight;
@@ -20,6 +22,19 @@ pub enum Route {
     Subsets,
     // Over the number of the named lives in a set, where only the number alive matters.
     Counts,
+}
+
+// In words.
+impl fmt::Display for Route {
+    ghost output = { λ route. Some (words route) };
+
+    fn fmt<W: fmt::Write>(&self, f: &mut fmt::Formatter<W>) -> fmt::Result {
+        f.write_str(match self {
+            Route::Patterns => "by patterns",
+            Route::Subsets => "by subsets",
+            Route::Counts => "by counts",
+        })
+    }
 }
 
 // The weight by a route, where the seats that are not named stand as failed.

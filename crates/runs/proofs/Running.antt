@@ -1,7 +1,7 @@
 -- A run, one line on.
 use Rattle.std.proofs.Common.{◌≡◌, ℕ, ◌+◌, ◌-◌, ◌<◌, ◌≤◌, min, Bool, true, false, Bor, inl, inr, get_or, eqb, leb, List, [], ◌∷◌, ◌++◌, length, take, drop, Ok, Err, sym, refl, ap, ◌∙◌, subst, arith}
 use Rattle.std.proofs.lemmas.List.{append_assoc, append-nil, length-append, length-take-le, drop-drop, take_all, take_more, get_or-take, get_or_append_left}
-use Rattle.std.proofs.lemmas.Bool.{cond_both, cases_lt, eqb-true}
+use Rattle.std.proofs.lemmas.Bool.{cases_lt, eqb-true}
 use Rattle.refusals.specs.declared.Refusal.TheVariants as refusal
 use Rattle.std.specs.Fn.{ComputesKey, CalledAt}
 use Rattle.std.specs.List.{IsFirstMatchOrLen, All}
@@ -11,7 +11,8 @@ use denote.Param.Members.{Mut}
 use Rattle.writing.specs.declared.output.Output.{Output}
 use Rattle.writing.specs.Printed.{Written}
 use Rattle.writing.specs.Outputs.{room, Adds}
-use Rattle.lines.specs.Pieces.{pieces, onto}
+use Rattle.lines.specs.Pieces.{pieces}
+use Rattle.lines.proofs.Cutting.{pieces-some}
 use Rattle.schemes.specs.declared.fault.Fault.{Fault}
 use Rattle.schemes.specs.declared.fault.Fault.TheVariants.{At}
 use Rattle.schemes.specs.declared.fault.LineFault.{LineFault}
@@ -31,16 +32,12 @@ pub record Some-piece (ps : List (List ℕ)) : Type 0 where
   pub more : List (List ℕ)
   pub is : ps ≡ next ∷ more
 
-onto-some : (c : ℕ) (ps : List (List ℕ)) → Some-piece (onto c ps)
-onto-some c [] = record { next = c ∷ []; more = []; is = refl }
-onto-some c (p ∷ ps) = record { next = c ∷ p; more = ps; is = refl }
-
 some_piece : (stop : ℕ) (bs : List ℕ) → Some-piece (pieces stop bs)
-some_piece stop [] = record { next = []; more = []; is = refl }
-some_piece stop (c ∷ cs) =
-    cond_both (eqb c stop) ([] ∷ pieces stop cs) (onto c (pieces stop cs)) Some-piece
-    (λ _. record { next = []; more = pieces stop cs; is = refl })
-    (λ _. onto-some c (pieces stop cs))
+some_piece stop bs = first_of (pieces stop bs) (pieces-some stop bs)
+  where
+    first_of : (ps : List (List ℕ)) → 0 < length ps → Some-piece ps
+    first_of [] h = absurd (omega arith)
+    first_of (p ∷ ps) h = record { next = p; more = ps; is = refl }
 
 -- the lines of what is left, where its first line has an end
 lines_are : (bs line left : List ℕ) → pieces 10 bs ≡ line ∷ pieces 10 left → pieces 10 bs ≡ line ∷ (some_piece 10 left).next ∷ (some_piece 10 left).more

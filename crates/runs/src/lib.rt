@@ -11,6 +11,9 @@ pub mod outcome;
 mod printing;
 mod told;
 
+// How many bytes a file may have.
+pub const LONGEST: usize = 32_256;
+
 // Runs a file, and writes what it prints.
 pub fn run(file: &[u8], out: &mut [u8]) -> Outcome
     ensures within { result.len ≤ length out.old }

@@ -5,16 +5,14 @@ ghost use Rattle.lines.specs.Pieces.{pieces};
 ghost use Rattle.sessions.specs.State.{beginning};
 ghost use Rattle.runs.specs.Run.{Runs, FileRuns, ran, so_far};
 
+use crate::LONGEST;
 use crate::outcome::Stop;
 use crate::printing::{blame, speak};
 use refusals::Refusal;
-use schemes::fault::{Fault, LineFault};
+use schemes::fault::LineFault;
 use sessions::session::Session;
 use tokens::faults::with_number;
 use writing::output::Output;
-
-// How many bytes a file may have.
-const LONGEST: usize = 32_256;
 
 // Runs the lines of a file from its first, and answers how they end. A refusal that ends them is not printed yet.
 fn run_lines(file: &[u8], output: &mut Output) -> Result<(), Stop>
@@ -24,7 +22,7 @@ fn run_lines(file: &[u8], output: &mut Output) -> Result<(), Stop>
     for (before, text) in file.split_inclusive(|b| *b == b'\n').enumerate() {
         let line = before + 1;
         let [text @ .., b'\n'] = text else {
-            let fault = Fault::At(0, Refusal::Line);
+            let fault = Refusal::Line.into();
             return Err(Stop::Refused(LineFault { line, fault }));
         };
         let said = with_number(session.step(text), line)?;
@@ -38,7 +36,7 @@ fn run_file(file: &[u8], output: &mut Output) -> Result<(), Stop>
     ensures { (w : List ℕ) × Adds output.old output.new w × FileRuns file.now (room output.old) (so_far w (room output.new) result) }
 {
     if file.len() > LONGEST {
-        let fault = Fault::At(0, Refusal::FileTooLong);
+        let fault = Refusal::FileTooLong.into();
         return Err(Stop::Refused(LineFault { line: 0, fault }));
     }
     run_lines(file, output)

@@ -1,12 +1,13 @@
 -- The fields of a line, one on, and the numbers of a line that are kept.
-use Rattle.std.proofs.Common.{◌≡◌, ℕ, ◌+◌, ◌-◌, ◌<◌, Bool, false, cond, eqb, leb, List, [], ◌∷◌, ◌++◌, length, get_or, take, drop, set, Ok, Err, Result, OnOk, OnErr, IsOk, sym, refl, ap, ◌∙◌, inl, inr, arith}
-use Rattle.std.proofs.lemmas.Bool.{ne_eqb, cond-true, cond-false, cond_both, cases_lt, lt-ltb, lt-leb, and_left}
+use Rattle.std.proofs.Common.{◌≡◌, ℕ, ◌+◌, ◌-◌, ◌<◌, Bool, false, cond, leb, List, [], ◌∷◌, ◌++◌, length, get_or, take, drop, set, Ok, Err, Result, OnOk, OnErr, IsOk, sym, refl, ap, ◌∙◌, inl, inr, arith}
+use Rattle.std.proofs.lemmas.Bool.{ne_eqb, cond-true, cond-false, cases_lt, lt-ltb, lt-leb, and_left}
 use Rattle.std.proofs.lemmas.List.{get_or-take, take_all, take-append-le, length-take, length_push, length-append, length-drop, length-take-le, take_rest, drop-drop}
 use Rattle.arrayvec.specs.ArrayVec.{ArrayVec}
 use Rattle.cases.specs.Book.{Book}
 use Rattle.lines.specs.declared.kind.Kind.{Kind}
 use Rattle.lines.specs.declared.kind.Kind.TheVariants.{Table, Life, Withdraw, Rate, Start, Fail, YearEnd, Close, Benefit}
-use Rattle.lines.specs.Pieces.{pieces, onto, fields}
+use Rattle.lines.specs.Pieces.{fields}
+use Rattle.lines.proofs.Cutting.{pieces-some}
 use Rattle.refusals.specs.declared.Refusal.TheVariants.{Line, Counts}
 use Rattle.schemes.specs.declared.shape.Shape.TheVariants.{Amount, UpTo}
 use Rattle.schemes.specs.declared.fault.Fault.TheVariants.{At}
@@ -96,14 +97,6 @@ enrolled-take ns ts b =
     let e4 = get_or-take most ns 4 0 (omega arith) in
     let e5 = get_or-take most ns 5 0 (omega arith) in
     (λ j. enrolled (basis (e1 j) (e2 j) (e3 j) ts) (e j) (e4 j) (e5 j) b)
-
-onto-some : (c : ℕ) (ps : List (List ℕ)) → 0 < length (onto c ps)
-onto-some c [] = omega arith
-onto-some c (p ∷ ps) = omega arith
-
-pieces-some : (stop : ℕ) (bs : List ℕ) → 0 < length (pieces stop bs)
-pieces-some stop [] = omega arith
-pieces-some stop (c ∷ cs) = cond_both (eqb c stop) ([] ∷ pieces stop cs) (onto c (pieces stop cs)) (λ ps. 0 < length ps) (λ _. omega arith) (λ _. onto-some c (pieces stop cs))
 
 -- a benefit's line with an amount and clauses
 pub amount_is : (rest f a : List ℕ) → fields rest ≡ f ∷ fields a → 0 < length a → amount rest ≡ read Amount 2 f

@@ -1,6 +1,7 @@
 // A line's life: its basis, aged, projected, and then enrolled.
-ghost use Rattle.std.specs.Prelude.{◌≡◌, Ok, length};
+ghost use Rattle.std.specs.Prelude.{◌≡◌, Ok, IsOk, length, slice_index};
 ghost use Rattle.cases.specs.Views.{enrolling_book};
+ghost use Rattle.schemes.specs.Bases.{basis_of};
 ghost use Rattle.schemes.specs.Counts.{lists};
 ghost use Rattle.schemes.specs.Enrolment.{enrolled, joined, Leaves, enrolled_by, by_step, by_table};
 
@@ -56,7 +57,8 @@ impl Terms {
 
 // A life by the six numbers of its line.
 fn enrol_by(case: &mut Enrolling, tables: &Tables, numbers: &[u32]) -> Result<(), Refusal>
-    requires { length numbers.now ≡ 6 }
+    requires six { length numbers.now ≡ 6 }
+    requires based { IsOk (basis_of (slice_index numbers.now 1)) }
     ensures { Leaves (enrolled_by numbers.now (lists tables.now.tables) (enrolling_book case.old)) result (enrolling_book case.new) (enrolling_book case.old) }
 {
     let [seat, basis, x, y, aged, factor] = numbers else {
@@ -67,9 +69,9 @@ fn enrol_by(case: &mut Enrolling, tables: &Tables, numbers: &[u32]) -> Result<()
         aged: *aged,
         factor: *factor,
     };
-    match Basis::try_from(*basis) {
-        Ok(Basis::Listed) => terms.enrol_listed(case, tables.at(*x as usize)),
-        Ok(Basis::Stepped) | Err(_) => terms.enrol_stepped(case, *x, *y),
+    match Basis::try_from(*basis).unwrap() {
+        Basis::Listed => terms.enrol_listed(case, tables.at(*x as usize)),
+        Basis::Stepped => terms.enrol_stepped(case, *x, *y),
     }
 }
 

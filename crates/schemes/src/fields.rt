@@ -3,6 +3,9 @@ ghost use Rattle.std.specs.Prelude.{◌≡◌, ◌+◌, ◌≤◌, ◌^◌, leng
 
 use lines::fields::cut;
 
+// The place of a line where its first field begins, after its kind and a space.
+pub(crate) const FIRST: usize = 2;
+
 // What is left of a line, and the place where its first field begins.
 #[derive(Drop)]
 pub(crate) struct Fields<'a> {
@@ -20,7 +23,7 @@ impl<'a> Fields<'a> {
         ensures { ahead result ≡ placed 2 (fields rest.now) }
     {
         Fields {
-            place: 2,
+            place: FIRST,
             left: rest,
         }
     }

@@ -1,25 +1,36 @@
 // How a field is read.
 ghost use Rattle.std.specs.Prelude.{◌≡◌, ◌==◌, length, slice_index, if◌then◌else◌};
-ghost use Rattle.schemes.specs.Syntax.{shape, life_shape, read, seated, only};
+ghost use Rattle.schemes.specs.declared.basis.Basis.TheVariants.{Listed};
+ghost use Rattle.schemes.specs.Bases.{code_of};
+ghost use Rattle.schemes.specs.Syntax.{shape, life_shape, read, seated, based, only};
 
 use crate::basis::Basis;
 use crate::fault::Fault;
 use crate::shape::Shape;
+use crate::tables::LAST_TABLE;
+use benefits::MOST_AMOUNT;
 use lines::kind::Kind;
+use lives::life::{MOST, YEARS};
 use patterns::SEATS;
 use refusals::Refusal;
 use writing::number::number;
+
+// The largest number of a field that has no limit of its own.
+const LARGEST: u32 = 1_000_000;
+
+// The highest rate, in hundredths of a percent a year.
+const HIGHEST_RATE: u32 = 10_000;
 
 // How the next field of a line is read, after those that gave the numbers so far.
 pub(crate) fn shape_of(kind: Kind, sofar: &[u32]) -> Shape
     ensures { result ≡ shape kind (length sofar.now) (slice_index sofar.now 1) }
 {
     match kind {
-        Kind::Table => Shape::UpTo(if sofar.is_empty() { 3 } else { 1_000_000 }),
+        Kind::Table => Shape::UpTo(if sofar.is_empty() { LAST_TABLE } else { MOST }),
         Kind::Life => life_shape(sofar),
         Kind::Withdraw | Kind::Fail => Shape::Seat,
-        Kind::Rate => Shape::UpTo(10_000),
-        Kind::Start | Kind::YearEnd | Kind::Close => Shape::UpTo(1_000_000),
+        Kind::Rate => Shape::UpTo(HIGHEST_RATE),
+        Kind::Start | Kind::YearEnd | Kind::Close => Shape::UpTo(LARGEST),
         Kind::Benefit => Shape::Amount,
     }
 }
@@ -33,18 +44,19 @@ fn life_shape(sofar: &[u32]) -> Shape
         [_] => Shape::Basis,
         [_, basis] => Shape::UpTo(limits(*basis).0),
         [_, basis, _] => Shape::UpTo(limits(*basis).1),
-        [_, _, _, _] => Shape::UpTo(121),
-        _ => Shape::UpTo(1_000_000),
+        [_, _, _, _] => Shape::UpTo(YEARS as u32),
+        _ => Shape::UpTo(LARGEST),
     }
 }
 
-// The limits of the two numbers that a basis takes: a table and nothing, or years and a step.
+// The limits of the two numbers that a basis takes, by its code: a table and nothing, or years and a step.
 fn limits(basis: u32) -> (u32, u32)
-    ensures { result ≡ (if basis == 97 then (3, 0) else (1000000, 1000000)) }
+    ensures { result ≡ (if basis == code_of Listed then (3, 0) else (1000000, 1000000)) }
 {
-    match Basis::try_from(basis) {
-        Ok(Basis::Listed) => (3, 0),
-        Ok(Basis::Stepped) | Err(_) => (1_000_000, 1_000_000),
+    if basis == Basis::Listed.code() {
+        (LAST_TABLE, 0)
+    } else {
+        (LARGEST, LARGEST)
     }
 }
 
@@ -57,21 +69,25 @@ fn seat(field: &[u8]) -> Option<u32>
     (usize::from(seat) < SEATS).then_some(u32::from(seat))
 }
 
+// The code of the basis that a field names.
+fn basis(field: &[u8]) -> Option<u32>
+    ensures { result ≡ based (only field.now) }
+{
+    let [letter] = field else { return None };
+    let code = u32::from(*letter);
+    Basis::try_from(code).is_ok().then_some(code)
+}
+
 impl Shape {
     // The number that a field gives, the field beginning at a place.
     pub(crate) fn read(self, place: usize, field: &[u8]) -> Result<u32, Fault>
         ensures { result ≡ read self place field.now }
     {
         match self {
-            Shape::Seat => seat(field).ok_or(Fault::At(0, Refusal::NoSeat)),
-            Shape::Basis => match field {
-                [letter] => Basis::try_from(u32::from(*letter))
-                    .map(Basis::code)
-                    .map_err(|refusal| Fault::At(place, refusal)),
-                _ => Err(Fault::At(place, Refusal::Number)),
-            },
+            Shape::Seat => seat(field).ok_or(Refusal::NoSeat.into()),
+            Shape::Basis => basis(field).ok_or(Fault::At(place, Refusal::Number)),
             Shape::UpTo(limit) => number(field, limit).ok_or(Fault::At(place, Refusal::Number)),
-            Shape::Amount => number(field, 500_000_000)
+            Shape::Amount => number(field, MOST_AMOUNT)
                 .filter(|amount| *amount > 0)
                 .ok_or(Fault::At(place, Refusal::Number)),
         }

@@ -1,11 +1,11 @@
 // The fields of a line, left to right.
-ghost use Rattle.std.specs.Prelude.{◌≡◌, ℕ, ◌+◌, List, [], length, take, Ok, Err, MatchResult};
+ghost use Rattle.std.specs.Prelude.{◌≡◌, ℕ, List, [], take, Ok, Err, MatchResult};
 ghost use Rattle.lines.specs.Pieces.{fields};
 ghost use Rattle.schemes.specs.Most.{most};
 ghost use Rattle.schemes.specs.Syntax.{counted, reads, given, one, none, amount, clauses_place, clauses_text, ReadsStand};
 
 use crate::fault::Fault;
-use crate::fields::Fields;
+use crate::fields::{FIRST, Fields};
 use crate::reader::shape_of;
 use crate::shape::Shape;
 use arrayvec::ArrayVec;
@@ -57,7 +57,7 @@ pub(crate) fn numbers(kind: Kind, rest: &[u8]) -> Result<Numbers, Fault>
     ensures { MatchResult result (λ ns. (all : List ℕ) × (given kind rest.now ≡ Ok all) × (ns.items ≡ take most all)) (λ e. given kind rest.now ≡ Err e) }
 {
     if !complete(kind, Fields::of(rest).count()) {
-        return Err(Fault::At(0, Refusal::Line));
+        return Err(Refusal::Line.into());
     }
     read_all(kind, rest)
 }
@@ -83,23 +83,22 @@ pub fn amount_and_clauses(rest: &[u8]) -> Result<Priced<'_>, Fault>
     ensures { MatchResult result (λ p. (amount rest.now ≡ Ok p.amount) × (p.place ≡ clauses_place rest.now) × (p.clauses.now ≡ clauses_text rest.now)) (λ e. amount rest.now ≡ Err e) }
 {
     if rest.is_empty() {
-        return Err(Fault::At(0, Refusal::Line));
+        return Err(Refusal::Line.into());
     }
     let (field, after) = cut(rest);
     let [_, clauses @ ..] = after else {
-        return Err(Fault::At(0, Refusal::Line));
+        return Err(Refusal::Line.into());
     };
-    let amount = Shape::Amount.read(2, field)?;
+    let amount = Shape::Amount.read(FIRST, field)?;
     Ok(Priced {
         amount,
-        place: field.len() + 3,
+        place: FIRST + field.len() + 1,
         clauses,
     })
 }
 
 // Fields read left to right give their numbers, or the first that is refused.
-pub fn reads_stand() -> u8
+#[tactic(auto, using(crate::proofs::Giving::reads_stand))]
+pub fn reads_stand()
     ensures { ReadsStand }
-{
-    0
-}
+{}

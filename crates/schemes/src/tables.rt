@@ -1,5 +1,5 @@
 // The tables that lives are read from.
-ghost use Rattle.std.specs.Prelude.{◌≡◌, ◌<◌, true, false, [], ◌++◌, length, replicate, MatchResult, slice_index_or};
+ghost use Rattle.std.specs.Prelude.{◌≡◌, true, false, [], ◌++◌, length, replicate, MatchResult, slice_index_or};
 ghost use Rattle.refusals.specs.declared.Refusal.TheVariants.{Counts};
 ghost use Rattle.lives.specs.Tables.{fairly};
 ghost use Rattle.schemes.specs.Enrolment.{Leaves};
@@ -17,6 +17,9 @@ use std::array;
 
 // How many tables there are.
 const TABLES: usize = 4;
+
+// The number of the last.
+pub(crate) const LAST_TABLE: u32 = TABLES as u32 - 1;
 
 // A table of counts, as lines fill it.
 type Table = ArrayVec<u32, YEARS>;
@@ -55,10 +58,7 @@ impl Tables {
     pub(crate) fn at(&self, i: usize) -> &[u32]
         ensures { result.now ≡ slice_index_or (lists self.now.tables) i [] }
     {
-        match self.tables.get(i) {
-            Some(table) => table,
-            None => &[],
-        }
+        self.tables.get(i).map_or(&[], |table| table.as_slice())
     }
 
     // Appends the counts of a table's line.

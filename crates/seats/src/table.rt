@@ -1,9 +1,10 @@
 // The seats of a case in a plain table. A change of one seat leaves every other seat's record as it is.
-ghost use Rattle.std.specs.Prelude.{◌≡◌, ℕ, ◌<◌, ◌≤◌, length, if◌then◌else◌, slice_index, slice_set};
-ghost use Rattle.seats.specs.Seats.{Seated, vacant, vacancies, living, failed, seat_at, first, product, is_failed, lives, ending, any_of, failures, Columns, Within};
+ghost use Rattle.std.specs.Prelude.{◌≡◌, slice_set};
+ghost use Rattle.seats.specs.Seats.{vacant, vacancies, living, failed, seat_at, first, product, lives, ending, any_of, failures, Columns, Within};
 
 use crate::number::SeatNumber;
 use crate::seat::{Mark, Seat};
+use lives::life::YEARS;
 use patterns::SEATS;
 
 #[derive(Drop)]
@@ -12,47 +13,9 @@ pub struct SeatTable {
 }
 
 const VACANT: Seat = Seat {
-    counts: [0; 121],
+    counts: [0; YEARS],
     mark: Mark::Empty,
 };
-
-impl Seat {
-    // The count of year 0 of an occupied seat, and 1 of an empty one.
-    fn first(&self) -> u32
-        ensures { result ≡ first self.now }
-    {
-        match self.mark {
-            Mark::Empty => 1,
-            Mark::Living | Mark::Failed => self.counts[0],
-        }
-    }
-
-    // The count of a year, 0 past the last.
-    pub fn count(&self, year: usize) -> u32
-        ensures { result ≡ slice_index self.now.counts year }
-    {
-        self.counts.get(year).copied().unwrap_or(0)
-    }
-
-    fn lives(&self) -> bool
-        ensures { result ≡ lives self.now }
-    {
-        self.mark == Mark::Living
-    }
-
-    // Whether it lives and its count of a year is 0.
-    fn ends_by(&self, year: u32) -> bool
-        ensures { result ≡ ending year self.now }
-    {
-        self.lives() && self.count(year as usize) == 0
-    }
-
-    fn has_failed(&self) -> bool
-        ensures { result ≡ is_failed self.now.mark }
-    {
-        self.mark == Mark::Failed
-    }
-}
 
 impl SeatTable {
     pub fn new() -> SeatTable
@@ -111,7 +74,7 @@ impl SeatTable {
     }
 
     // A life of these counts takes the seat.
-    pub fn seat(&mut self, seat: SeatNumber, counts: [u32; 121])
+    pub fn seat(&mut self, seat: SeatNumber, counts: [u32; YEARS])
         ensures { self.new.seats ≡ slice_set self.old.seats seat.index (living counts) }
     {
         self.seats[seat.index] = Seat {

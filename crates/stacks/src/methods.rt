@@ -1,5 +1,5 @@
 // What a stack does: push, pop, and a look at the top.
-ghost use Rattle.std.specs.Prelude.{◌≡◌, [], ◌∷◌, length, Some, None, MatchResult};
+ghost use Rattle.std.specs.Prelude.{◌≡◌, [], ◌∷◌, length, MatchResult};
 ghost use Rattle.stacks.specs.Items.{items, room, rest, head};
 
 use crate::{Full, Stack};

@@ -1,5 +1,5 @@
 // A text, how far it has been cut, and what stands next.
-ghost use Rattle.std.specs.Prelude.{◌≡◌, ◌≤◌, length, Some, None, Ok, Err};
+ghost use Rattle.std.specs.Prelude.{◌≡◌, ◌≤◌, length, Some, Ok};
 ghost use Rattle.tokens.specs.Cut.{scan_at};
 ghost use Rattle.tokens.specs.declared.scan.Scanned.{Scanned};
 

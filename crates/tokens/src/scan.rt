@@ -1,5 +1,5 @@
 // The token at a place, and where the text goes on after it.
-ghost use Rattle.std.specs.Prelude.{◌≡◌, ℕ, ◌+◌, ◌<◌, ◌≤◌, true, length, slice_index};
+ghost use Rattle.std.specs.Prelude.{◌≡◌, ℕ, ◌<◌, ◌≤◌, true, length, slice_index};
 ghost use Rattle.tokens.specs.declared.classes.Class.TheVariants.{Seat};
 ghost use Rattle.tokens.specs.Classes.{member};
 ghost use Rattle.tokens.specs.Cut.{set_of, bit_of, mark_of, or_else, token, refused, scan_at, Within};

@@ -3,13 +3,13 @@
 
 use anyhow::anyhow;
 use runs::outcome::Stop;
-use runs::run;
+use runs::{LONGEST, run};
 use schemes::fault::{Fault, LineFault};
 use std::io;
 use std::io::{Read, Write};
 
 // One byte more than a file may have, so that a longer one is seen to be longer.
-const INPUT: u64 = 32_257;
+const INPUT: u64 = LONGEST as u64 + 1;
 
 const OUTPUT: usize = 65_536;
 
@@ -36,8 +36,7 @@ fn value(rt: &HostRuntime) -> anyhow::Result<()> {
     rt.stdin().take(INPUT).read_to_end(&mut file)?;
     let mut out = [0; OUTPUT];
     let outcome = run(file.as_slice(), &mut out);
-    let written = outcome.len;
-    rt.stdout().write_all(&out[0..written])?;
+    rt.stdout().write_all(&out[..outcome.len])?;
     match outcome.ending {
         Ok(()) => Ok(()),
         Err(Stop::Refused(at)) => {

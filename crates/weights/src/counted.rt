@@ -1,4 +1,4 @@
-// Whether any seat is counted.
+// Whether no seat is counted any more.
 ghost use Rattle.std.specs.Prelude.{◌≡◌};
 ghost use Rattle.weights.specs.Exposures.{none_counted};
 

@@ -40,10 +40,7 @@ impl InForce {
         ensures elapsed { result.case.now.elapsed ≡ self.old.elapsed }
     {
         let before = self.supposed;
-        self.supposed = match self.test_suppose(seat) {
-            Ok(()) => Some(seat),
-            Err(_) => None,
-        };
+        self.supposed = self.test_suppose(seat).ok().map(|()| seat);
         Supposition { case: self, before }
     }
 }

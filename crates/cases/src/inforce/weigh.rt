@@ -14,18 +14,19 @@ ghost use Rattle.cases.specs.Routing.{judge_number, judge_routed, Answered};
 use super::InForce;
 use super::view::View;
 use benefits::benefit::Benefit;
-use patterns::SEATS;
+use lives::life::YEARS;
 use patterns::sets::is_member;
 use refusals::Refusal;
 use routes::by_number::is_even;
 use routes::route::{Route, weigh};
 use seats::seat::{Mark, Seat};
+use std::array;
 use weights::exposure::Exposure;
 use weights::exposures::Exposures;
 use weights::weight::Weight;
 
 // The last year that a weight is asked for.
-pub const LAST_YEAR: u32 = 120;
+pub const LAST_YEAR: u32 = YEARS as u32 - 1;
 
 // What a weight takes of a seat that is failed or not named.
 const LOST: Exposure = Exposure {
@@ -44,12 +45,12 @@ impl View<'_> {
         }
     }
 
-    // A seat as the weight for a year sees it.
-    fn exposure(&self, index: usize, seat: &Seat, year: u32) -> Exposure
-        ensures { result ≡ exposure_by (seen_mark self.now.supposed index seat.now.mark) (slice_index seat.now.counts (self.now.case.now.elapsed + year)) (slice_index seat.now.counts self.now.case.now.elapsed) }
+    // A seat that is seen with a mark, as the weight for a year sees it.
+    fn exposure(&self, mark: Mark, seat: &Seat, year: u32) -> Exposure
+        ensures { result ≡ exposure_by mark (slice_index seat.now.counts (self.now.case.now.elapsed + year)) (slice_index seat.now.counts self.now.case.now.elapsed) }
     {
         let elapsed = self.case.elapsed as usize;
-        match self.mark(index, seat) {
+        match mark {
             Mark::Living => Exposure {
                 count: u64::from(seat.count(elapsed + year as usize)),
                 present: u64::from(seat.count(elapsed)),
@@ -63,15 +64,16 @@ impl View<'_> {
         ensures { result.seats ≡ kept (flags seats benefit.now.named) (exposures_for (book_of self.now) year) }
     {
         let named = benefit.named();
-        let mut found = [LOST; SEATS];
-        for (i, seat) in self.case.table.records().iter().enumerate() {
-            found[i] = if is_member(named, i) {
-                self.exposure(i, seat, year)
+        let records = self.case.table.records();
+        let seats = array::from_fn(|i| {
+            let seat = &records[i];
+            if is_member(named, i) {
+                self.exposure(self.mark(i, seat), seat, year)
             } else {
                 LOST
-            };
-        }
-        Exposures { seats: found }
+            }
+        });
+        Exposures { seats }
     }
 
     // Whether a seat is named and empty.

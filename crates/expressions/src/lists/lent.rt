@@ -1,6 +1,6 @@
 // Lists that a caller lends, and the reading of an expression in them.
 ghost use Rattle.std.specs.Prelude.{◌≡◌, ◌≤◌, ◌&&◌, false, length, nat_le, MatchOption};
-ghost use Rattle.expressions.specs.Verdict.{Verdict, Said, pending_room, answers_room};
+ghost use Rattle.expressions.specs.Verdict.{Verdict, Said, SameRoom, pending_room, answers_room};
 
 use super::Lists;
 use crate::cut::cut;
@@ -23,11 +23,10 @@ impl<'a> Lists<'a> {
 
     // Reads an expression.
     pub fn read(&mut self, text: &[u8]) -> Result<Reading, TokenFault>
-        ensures pending { pending_room self.new ≡ pending_room self.old }
-        ensures answers { answers_room self.new ≡ answers_room self.old }
+        ensures room { SameRoom self.old self.new }
         ensures said { Said result text.now }
     {
-        // One fill: `ArrayVec::new` makes each blank by itself.
+        // Cheaper than `ArrayVec::new`, which makes each blank by itself.
         let mut tokens = ArrayVec::from_array_in((), [Token::default(); MOST_TOKENS]);
         tokens.clear();
         cut(text, &mut tokens)?;
@@ -37,8 +36,7 @@ impl<'a> Lists<'a> {
     // Reads the tokens of a text that ends at the place `end`.
     fn read_tokens(&mut self, tokens: &[Token], end: usize) -> Result<Reading, TokenFault>
         requires few { length tokens.now ≤ 64 }
-        ensures pending { pending_room self.new ≡ pending_room self.old }
-        ensures answers { answers_room self.new ≡ answers_room self.old }
+        ensures room { SameRoom self.old self.new }
         ensures verdict { Verdict result tokens.now end }
     {
         let mut reader = Reader {

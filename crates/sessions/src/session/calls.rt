@@ -10,15 +10,11 @@ use annuities::valuation::Valuation;
 use benefits::benefit::Benefit;
 use cases::enrolling::Enrolling;
 use cases::inforce::InForce;
-use expressions::{Pending, Word};
 use lines::kind::Kind;
 use routes::route::Route;
 use schemes::fault::Fault;
 use schemes::reading::{amount_and_clauses, no_number, only_number};
 use tokens::faults::with_number;
-
-// How many words and answers a reader keeps.
-const LIST: usize = 64;
 
 // W seat
 pub(super) fn withdraw(case: &mut Enrolling, rest: &[u8]) -> Result<(), Fault>
@@ -54,19 +50,12 @@ pub(super) fn price(case: &InForce, rest: &[u8], rate: u32) -> Result<Valuation,
     ensures { Values (amount rest.now) rest.now (in_force_book case.now) rate result }
 {
     let line = amount_and_clauses(rest)?;
-    let mut pending = [Pending {
-        word: Word::Or,
-        place: 0,
-    }; LIST];
-    let mut answers = [0; LIST];
-    let read = Benefit::read(line.amount, line.clauses, &mut pending, &mut answers);
-    let benefit = with_number(read, line.place)?;
+    let benefit = with_number(Benefit::parse(line.amount, line.clauses), line.place)?;
     let pricing = Pricing {
         view: case.itself(),
         benefit: &benefit,
         rate,
         route: Route::Patterns,
     };
-    let valuation = pricing.value()?;
-    Ok(valuation)
+    Ok(pricing.value()?)
 }

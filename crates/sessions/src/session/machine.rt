@@ -1,8 +1,6 @@
 // What a session does at a line.
 ghost use Rattle.std.specs.Prelude.{◌≡◌};
-ghost use Rattle.cases.specs.Book.{step, start, beginning as new_case};
-ghost use Rattle.cases.specs.Views.{enrolling_book};
-ghost use Rattle.sessions.specs.State.{beginning, state_of, with_book as in_phase};
+ghost use Rattle.sessions.specs.State.{beginning, state_of};
 ghost use Rattle.sessions.specs.Machine.{Acts, Lined, done_by, Kept};
 
 use super::calls::{fail, price, withdraw, year_end};
@@ -51,7 +49,7 @@ impl Session {
                 no_number(kind, rest)?;
                 self.phase = Phase::Enrolling(Enrolling::open());
             }
-            _ => return Err(Fault::At(0, Refusal::Phase)),
+            _ => return Err(Refusal::Phase.into()),
         }
         Ok(None)
     }
@@ -61,9 +59,7 @@ impl Session {
         ensures lined { Lined line.now (state_of self.old) (done_by result (state_of self.new)) }
         ensures kept { Kept result (state_of self.new) (state_of self.old) }
     {
-        match part(line) {
-            Some(parted) => self.act(parted.kind, parted.rest),
-            None => Err(Fault::At(0, Refusal::Line)),
-        }
+        let parted = part(line).ok_or(Refusal::Line)?;
+        self.act(parted.kind, parted.rest)
     }
 }

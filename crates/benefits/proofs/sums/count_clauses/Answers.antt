@@ -1,11 +1,8 @@
 -- The needs of `count_clauses`.
-use Rattle.std.proofs.Common.{eqb, length, sym, ap, ◌∙◌, rules}
+use Rattle.std.proofs.Common.{eqb, rules}
 use Rattle.std.proofs.lemmas.Iterator.Consumers.{count_from_yields_List}
 use Rattle.std.proofs.lemmas.Iterator.Splits.{YieldsList-from_slice_split}
-use Rattle.benefits.proofs.Parting.{pieces_split}
 use Rattle.benefits.proofs.sums.count_clauses.Goals as goal
 
 pub returns : goal.returns
-returns c =
-    let text = c.args.text.now in
-    count_from_yields_List c.split.result _ c.count.ensures.ran (YieldsList-from_slice_split _ (λ b. eqb b 59) text c.split.ensures.rest c.split.ensures.done c.split.ensures.closure (λ x b q k. search rules)) ∙ ap length (sym (pieces_split 59 text))
+returns c = count_from_yields_List c.split.result _ c.count.ensures.ran (YieldsList-from_slice_split _ (λ b. eqb b 59) c.args.text.now c.split.ensures.rest c.split.ensures.done c.split.ensures.closure (λ x b q k. search rules))

@@ -18,13 +18,13 @@ pub read-requires : goal.read-requires
 read-requires c =
     let s = c.loop-i.i-iterator.iter in
     let k = c.in-Some.ensures.steps.0 in
-    omega (arith, c.loop-i.invariant.5 k.0, part_within (split_rest s) c.in-Some.clause.now _ _ k.1)
+    omega (arith, c.loop-i.invariant.4 k.0, part_within (split_rest s) c.in-Some.clause.now _ _ k.1)
 
 pub overflow_add-at-in-loop-i : goal.overflow_add-at-in-loop-i
 overflow_add-at-in-loop-i c =
     let s = c.loop-i.i-iterator.iter in
     let k = c.in-Some.ensures.steps.0 in
-    omega (arith, c.loop-i.invariant.5 k.0, part_within (split_rest s) c.in-Some.clause.now _ _ k.1)
+    omega (arith, c.loop-i.invariant.4 k.0, part_within (split_rest s) c.in-Some.clause.now _ _ k.1)
 
 pub add-requires : goal.add-requires
 add-requires c = few_paid c.loop-i.invariant.2 c.requires.few
@@ -41,8 +41,7 @@ loop-i-init c =
       tt,
       subst (λ l. Sofar (clauses_of text) l 0 (c.into_iter-i-iterator.result.count + 1) 0 (replicate patterns 0) (pending_room c.args.lists.now) (answers_room c.args.lists.now)) (sym (all_left text (split_rest c.into_iter-i-iterator.result.iter) (split_done c.into_iter-i-iterator.result.iter) rest done))
           (subst (λ n. Sofar (clauses_of text) (clauses_of text) 0 n 0 (replicate patterns 0) (pending_room c.args.lists.now) (answers_room c.args.lists.now)) (sym first) none),
-      refl,
-      refl,
+      record { pending = refl; answers = refl },
       λ more. omega (arith, ap length rest),
     )
 
@@ -58,13 +57,12 @@ loop-i-preserved c =
     let w = k.2 (λ b. eqb b 59) (always_returns_same _ _ _ (λ a r q k. search rules)) in
     let parted = next_left (split_rest s) clause (split_rest c.next.new.self.iter) (split_done s) (split_done c.next.new.self.iter) k.0 k.1 w.1 in
     let is = paired_ok c.read.result _ c.with_number.result c.in_ok-with_number.field-0 c.with_number.ensures c.in_ok-with_number.was in
-    let verdict : ClauseVerdict (share_of clause) (Ok c.in_ok-with_number.field-0) c.loop-i.at clause p a = verdict_moved c.loop-i.at clause inv.3 inv.4 is c.read.ensures.verdict in (
+    let verdict : ClauseVerdict (share_of clause) (Ok c.in_ok-with_number.field-0) c.loop-i.at clause p a = verdict_moved c.loop-i.at clause inv.3.pending inv.3.answers is c.read.ensures.verdict in (
       search rules,
       tt,
       one_more inv.2 clause _ c.in_ok-with_number.field-0 (c.loop-i.at + (length clause + 1)) (c.next.new.self.count + 1) _ c.add.new.self.twentieths parted (omega arith) (omega (arith, k'.2)) verdict c.add.ensures.named c.add.ensures.long c.add.ensures.pays,
-      c.read.ensures.pending ∙ inv.3,
-      c.read.ensures.answers ∙ inv.4,
-      λ more. omega (arith, inv.5 k.0, part_long (split_rest s) clause (split_rest c.next.new.self.iter) _ k.1 more),
+      record { pending = c.read.ensures.room.pending ∙ inv.3.pending; answers = c.read.ensures.room.answers ∙ inv.3.answers },
+      λ more. omega (arith, inv.4 k.0, part_long (split_rest s) clause (split_rest c.next.new.self.iter) _ k.1 more),
     )
 
 pub returns : goal.returns
@@ -82,6 +80,6 @@ returns-in_err-with_number c =
     let parted = next_left (split_rest s) clause (split_rest c.next.new.self.iter) (split_done s) (split_done c.next.new.self.iter) k.0.0 k.0.1 w.1 in
     let out = err_from_is_err_and c.from_residual.result c.from_residual.ensures.1 in
     let was = paired_err c.read.result _ c.with_number.result _ c.with_number.ensures c.in_err-with_number.was in
-    let verdict = verdict_moved c.loop-i.at clause inv.3 inv.4 was.1 c.read.ensures.verdict in
+    let verdict = verdict_moved c.loop-i.at clause inv.3.pending inv.3.answers was.1 c.read.ensures.verdict in
     let is = out.2 ∙ ap (λ n. in_clause n.number n.fault) was.2 ∙ ap (λ i. in_clause (i + 1) was.0) k.1 in
     subst (λ r. ClausesRead r (clauses_of c.args.text.now) p a) (sym (out.1 ∙ ap Err is)) (no_more inv.2 clause _ was.0 parted verdict)

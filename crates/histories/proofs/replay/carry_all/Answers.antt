@@ -1,5 +1,5 @@
 -- The needs of `carry_all`.
-use Rattle.std.proofs.Common.{◌≡◌, ap, ◌∙◌}
+use Rattle.std.proofs.Common.{ap, ◌∙◌}
 use Rattle.cases.specs.Book.{run}
 use Rattle.cases.specs.Views.{in_force_book}
 use Rattle.histories.specs.History.{calls, calls_of}

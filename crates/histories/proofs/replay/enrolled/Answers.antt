@@ -1,5 +1,5 @@
 -- The needs of `enrolled`.
-use Rattle.std.proofs.Common.{◌≡◌, map, ap, ◌∙◌}
+use Rattle.std.proofs.Common.{map, ap, ◌∙◌}
 use Rattle.cases.specs.Book.{beginning, step, run}
 use Rattle.cases.specs.Views.{enrolling_book}
 use Rattle.histories.specs.History.{called}

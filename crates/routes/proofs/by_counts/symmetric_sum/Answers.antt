@@ -1,9 +1,9 @@
 -- The needs of `symmetric_sum`.
+use Rattle.std.proofs.lemmas.Nat.{ones-le}
 use Rattle.std.proofs.Common.{◌≡◌, ℕ, ◌+◌, sym, ap, ◌∙◌, ap₂, add-zero, arith}
 use Rattle.patterns.specs.Seats.{seats, patterns}
 use Rattle.patterns.specs.Patterns.{below}
 use Rattle.patterns.proofs.Loops.{below_none, below_next}
-use Rattle.routes.proofs.ByNumber.{ones_le}
 use Rattle.routes.proofs.ByCounts.{members_term, members_yes, members_no, members_whole, members_part}
 use Rattle.routes.proofs.by_counts.symmetric_sum.Goals as goal
 use Rattle.routes.proofs.by_counts.symmetric_sum.Goals.{then-set-members, else-set-members}
@@ -12,7 +12,7 @@ pub loop-set-init : goal.loop-set-init
 loop-set-init c = sym (below_none ◌+◌ 0 (members_term c.args.exposures.now.seats seats c.args.members))
 
 pub overflow_cast-set : goal.overflow_cast-set
-overflow_cast-set c = record { fits = omega (arith, ones_le seats c.loop-set.set c.loop-set-test.true) }
+overflow_cast-set c = record { fits = omega (arith, ones-le seats c.loop-set.set c.loop-set-test.true) }
 
 pub overflow_add-sum : goal.overflow_add-sum
 overflow_add-sum c =

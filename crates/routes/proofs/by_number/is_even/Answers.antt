@@ -1,4 +1,5 @@
 -- The needs of `is_even`.
+use Rattle.std.proofs.lemmas.Nat.{ones-le}
 use Rattle.std.proofs.Common.{◌≡◌, ℕ, ◌<◌, not, T, get_or, sym, ap, ◌∙◌, subst, arith, below_more}
 use lib.Count.{ones}
 use Rattle.std.proofs.lemmas.Bool.{false≢true}
@@ -7,15 +8,15 @@ use Rattle.patterns.specs.Patterns.{flags, size, within}
 use Rattle.patterns.proofs.Masks.{ones_size}
 use Rattle.weights.specs.Numbers.{share_with}
 use Rattle.weights.proofs.Evens.{only_even, even_only, other_uneven, with_even}
-use Rattle.routes.proofs.ByNumber.{inside-yes, inside_no, ones_le}
+use Rattle.routes.proofs.ByNumber.{inside-yes, inside_no}
 use Rattle.routes.proofs.by_number.is_even.Goals as goal
 use Rattle.routes.proofs.by_number.is_even.Goals.{then-p-named+else-share-by_number, else-p-named}
 
 pub overflow_cast-p : goal.overflow_cast-p
-overflow_cast-p c = record { fits = omega (arith, ones_le seats c.loop-p.p c.loop-p-test.true) }
+overflow_cast-p c = record { fits = omega (arith, ones-le seats c.loop-p.p c.loop-p-test.true) }
 
 pub bounds-by_number-p : goal.bounds-by_number-p
-bounds-by_number-p c = omega (arith, ones_le seats c.loop-p.p c.loop-p-test.true)
+bounds-by_number-p c = omega (arith, ones-le seats c.loop-p.p c.loop-p-test.true)
 
 pub returns-then-share-by_number : goal.returns-then-share-by_number
 returns-then-share-by_number c =

@@ -1,8 +1,9 @@
 -- The needs of `shares_by_number`.
+use Rattle.std.proofs.lemmas.Nat.{ones-le}
 use Rattle.std.proofs.Common.{◌≡◌, ℕ, ◌+◌, List, get_or, sym, subst, le_trans, le_of_eq, arith}
 use Rattle.patterns.specs.Seats.{seats, patterns}
 use Rattle.weights.proofs.Evens.{share_le}
-use Rattle.routes.proofs.ByNumber.{Tabled, tabled_none, tabled_in, tabled_out, tabled_all, ones_le}
+use Rattle.routes.proofs.ByNumber.{Tabled, tabled_none, tabled_in, tabled_out, tabled_all}
 use Rattle.routes.proofs.by_number.shares_by_number.Goals as goal
 use Rattle.routes.proofs.by_number.shares_by_number.Goals.{then-p-named, else-p-named}
 
@@ -10,10 +11,10 @@ pub loop-p-init : goal.loop-p-init
 loop-p-init c = tabled_none seats (λ q. get_or c.args.shares.now.twentieths q 0) c.args.named
 
 pub overflow_cast-twentieths : goal.overflow_cast-twentieths
-overflow_cast-twentieths c = record { fits = omega (arith, ones_le seats c.loop-p.p c.loop-p-test.true) }
+overflow_cast-twentieths c = record { fits = omega (arith, ones-le seats c.loop-p.p c.loop-p-test.true) }
 
 pub bounds-twentieths-p : goal.bounds-twentieths-p
-bounds-twentieths-p c = omega (arith, ones_le seats c.loop-p.p c.loop-p-test.true)
+bounds-twentieths-p c = omega (arith, ones-le seats c.loop-p.p c.loop-p-test.true)
 
 pub loop-p-preserved : goal.loop-p-preserved
 loop-p-preserved c =

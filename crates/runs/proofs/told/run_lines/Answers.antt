@@ -20,13 +20,13 @@ loop-before-init c =
     let f : c.into_iter-before-iterator.result.iter.rest.now ≡ c.args.file.now = search rules in
     ([], adds_none c.args.output.now, λ r m. rw (s, n, f) at m)
 
-pub returns-in_default-2 : goal.returns-in_default-2
-returns-in_default-2 c =
+pub returns-in_default : goal.returns-in_default
+returns-in_default c =
     let h = c.loop-before.invariant in
     let rest = c.loop-before.before-iterator.iter.rest.now in
     let t = taken rest c.in-Some.text.now c.next.new.self.iter.rest.now c.in-Some.ensures.steps.0 (λ a b q k. search (rules, tests)) in
     let e = taken-endless rest c.in-Some.text.now c.next.new.self.iter.rest.now t (search rules) in
-    (h.0, h.1, rw (c.in-Some.ensures.steps.1) (h.2 _ (run_endless (state_of c.loop-before.session) (c.loop-before.before-iterator.count + 1) (room c.loop-before.output) rest t.some e)))
+    (h.0, h.1, rw (c.in-Some.ensures.steps.1, c.into-fault.ensures) (h.2 _ (run_endless (state_of c.loop-before.session) (c.loop-before.before-iterator.count + 1) (room c.loop-before.output) rest t.some e)))
 
 pub returns-in_err-said : goal.returns-in_err-said
 returns-in_err-said c =

@@ -1,5 +1,5 @@
 -- What is left to show of `amount_and_clauses`.
-use Rattle.std.proofs.Common.{◌+◌, length, sym, refl, ap, ◌∙◌, arith, ltb-false, ltb-true}
+use Rattle.std.proofs.Common.{length, sym, refl, ap, ◌∙◌, arith, ltb-false, ltb-true}
 use Rattle.std.proofs.lemmas.Result.{err_from_is_err_and}
 use Rattle.schemes.specs.Syntax.{first_field}
 use Rattle.schemes.proofs.Fielding.{amount_is, clauses_is}
@@ -15,6 +15,6 @@ returns c =
     let f = c.cut.result.0.now in
     let a = c.cut.result.1.now in (
       amount_is c.args.rest.now f a c.cut.ensures.parts (omega (arith, ltb-true, ltb-false)) ∙ sym c.in_ok-amount.ensures,
-      sym (ap (λ fs. length (first_field fs) + 3) c.cut.ensures.parts),
+      omega (arith, ap (λ fs. length (first_field fs)) c.cut.ensures.parts),
       clauses_is c.args.rest.now f a _ c.cut.ensures.parts c.cut.ensures.left refl,
     )

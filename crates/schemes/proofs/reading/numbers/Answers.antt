@@ -1,5 +1,5 @@
 -- What is left to show of `numbers`.
-use Rattle.std.proofs.Common.{◌≡◌, length, true, false, sym, refl, ap, ◌∙◌, inl, arith, rules}
+use Rattle.std.proofs.Common.{◌≡◌, length, true, false, Err, sym, refl, ap, ◌∙◌, inl, arith, rules}
 use Rattle.std.proofs.lemmas.Iterator.Consumers.{count_from_yields_List, YieldsList-from_first}
 use Rattle.schemes.specs.Places.{ahead, seen}
 use Rattle.schemes.specs.Syntax.{counted}
@@ -15,7 +15,7 @@ returns-then-not-complete c =
     let n : c.count.result ≡ length (ahead c.of.result) = count_from_yields_List _ _ c.count.ensures.ran (YieldsList-from_first seen ahead _ refl) in
     let all : counted c.args.kind (length (fields c.args.rest.now)) ≡ c.complete.result = ap (counted c.args.kind) (sym (n ∙ ap length c.of.ensures ∙ placed-length 2 (fields c.args.rest.now))) ∙ sym c.complete.ensures in
     let e : counted c.args.kind (length (fields c.args.rest.now)) ≡ false = all ∙ search rules in
-    rw e refl
+    rw e (ap Err (sym c.into.ensures))
 
 pub returns : goal.returns
 returns c =

@@ -1,5 +1,5 @@
 -- The needs of `sum_years`.
-use Rattle.std.proofs.Common.{◌≡◌, ℕ, ◌+◌, ◌-◌, ◌*◌, ◌/◌, ◌≤◌, List, get_or, sym, ap, ◌∙◌, ap₂, le_trans, arith}
+use Rattle.std.proofs.Common.{◌≡◌, ℕ, ◌+◌, ◌-◌, ◌*◌, ◌/◌, ◌≤◌, List, get_or, sym, ap, ◌∙◌, ap₂, arith}
 use Rattle.patterns.specs.Patterns.{below}
 use Rattle.patterns.proofs.Loops.{below_none, below_next}
 use Rattle.cases.specs.Views.{book_of}

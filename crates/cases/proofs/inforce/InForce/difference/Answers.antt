@@ -1,10 +1,10 @@
 -- The needs of `difference`.
+use Rattle.std.proofs.lemmas.Nat.{ones-le}
 use Rattle.std.proofs.Common.{ℕ, ◌<◌, ◌≤◌, get_or, ap, ◌∙◌, subst, arith, w64}
 use lib.Count.{ones}
 use Rattle.std.proofs.lemmas.Int.{to_z-of_z}
 use Rattle.patterns.specs.Seats.{seats}
 use Rattle.weights.specs.Numbers.{share_with}
-use Rattle.routes.proofs.ByNumber.{ones_le}
 use Rattle.cases.specs.Views.{shown_book}
 use Rattle.cases.proofs.Routes.{difference_is, difference_past, difference-here}
 use Rattle.cases.proofs.inforce.InForce.difference.Goals as goal
@@ -12,7 +12,7 @@ use Rattle.cases.proofs.inforce.InForce.difference.Goals as goal
 pub overflow_cast-named : goal.overflow_cast-named
 overflow_cast-named c =
     let x = c.args.benefit.now in
-    record { fits = omega (arith, ap ones c.named.ensures, ones_le seats x.named x.seats) }
+    record { fits = omega (arith, ap ones c.named.ensures, ones-le seats x.named x.seats) }
 
 pub returns-then-order-named : goal.returns-then-order-named
 returns-then-order-named c =

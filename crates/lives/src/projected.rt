@@ -82,7 +82,10 @@ impl<L: Life> Life for Projected<L> {
     ghost ended = { λ x t late. projected_ended (L.Life.count x.life) (entries x.factors) t (L.Life.ended x.life t late) };
 
     fn at(&self, year: u32) -> u32 {
-        self.column().get(year as usize).copied().unwrap_or(0)
+        if year as usize >= YEARS {
+            return 0;
+        }
+        self.column()[year as usize]
     }
 
     fn column(&self) -> [u32; YEARS] {

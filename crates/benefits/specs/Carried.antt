@@ -1,11 +1,19 @@
 -- How a fault is carried outward.
 use Rattle.std.specs.Prelude.{ℕ}
 use Rattle.refusals.specs.declared.Refusal.{Refusal}
+use Rattle.refusals.specs.declared.Refusal.TheVariants.{Memory}
 use Rattle.tokens.specs.declared.faults.TokenFault.{TokenFault}
+use Rattle.expressions.specs.declared.reads.ReadFault.{ReadFault}
+use Rattle.expressions.specs.declared.reads.ReadFault.TheVariants.{Short, Token}
 use Rattle.benefits.specs.declared.faults.PartFault.{PartFault}
 use Rattle.benefits.specs.declared.faults.ClauseFault.{ClauseFault}
 use Rattle.benefits.specs.declared.faults.BenefitFault.{BenefitFault}
 use Rattle.benefits.specs.declared.faults.BenefitFault.TheVariants.{Refused, Clause}
+
+-- the token's fault in a reader's fault
+abbrev pub carried : ReadFault → TokenFault
+carried (Token e) = e
+carried Short = record { refusal = Memory; place = 0 }
 
 -- a token's fault in the part of the text that begins at the place n
 abbrev pub in_part : ℕ → TokenFault → PartFault

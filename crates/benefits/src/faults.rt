@@ -1,7 +1,8 @@
 // The fault of a token, carried whole into the fault of its clause and of its benefit.
 ghost use Rattle.std.specs.Prelude.{◌≡◌};
-ghost use Rattle.benefits.specs.Carried.{in_part, in_clause, in_whole, in_benefit};
+ghost use Rattle.benefits.specs.Carried.{carried, in_part, in_clause, in_whole, in_benefit};
 
+use expressions::ReadFault;
 use refusals::Refusal;
 use tokens::faults::{Numbered, TokenFault};
 
@@ -35,6 +36,31 @@ impl From<Numbered<TokenFault>> for PartFault {
         PartFault {
             start: n.number,
             fault: n.fault,
+        }
+    }
+}
+
+// The token's fault for which an expression cannot be read.
+fn token_fault(e: ReadFault) -> TokenFault
+    ensures { result ≡ carried e }
+{
+    match e {
+        ReadFault::Token(fault) => fault,
+        ReadFault::Short => TokenFault {
+            refusal: Refusal::Memory,
+            place: 0,
+        },
+    }
+}
+
+// The same for a caller that reads an expression with lists of any length.
+impl From<Numbered<ReadFault>> for PartFault {
+    ghost from_gives = { λ n p. p ≡ in_part n.number (carried n.fault) };
+
+    fn from(n: Numbered<ReadFault>) -> PartFault {
+        PartFault {
+            start: n.number,
+            fault: token_fault(n.fault),
         }
     }
 }

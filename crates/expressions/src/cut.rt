@@ -1,10 +1,8 @@
 // Cuts a text into its tokens.
-ghost use Rattle.std.specs.Prelude.{◌≡◌, ◌≤◌, [], Ok, Err, MatchResult};
-ghost use Rattle.arrayvec.specs.ArrayVec.{array_vec_len};
+ghost use Rattle.std.specs.Prelude.{◌≡◌, ◌≤◌, length, take, Ok, Err, MatchResult};
 ghost use Rattle.expressions.specs.Cuts.{cut_all, lower};
 
 use crate::MOST_TOKENS;
-use arrayvec::ArrayVec;
 use refusals::Refusal;
 use tokens::Token;
 use tokens::faults::TokenFault;
@@ -21,21 +19,21 @@ fn lower_code(refusal: Refusal) -> Refusal
     }
 }
 
-// Cuts a text into its tokens.
-pub(crate) fn cut(text: &[u8], tokens: &mut ArrayVec<Token, MOST_TOKENS>) -> Result<(), TokenFault>
-    requires { tokens.old.items ≡ [] }
-    ensures { MatchResult result (λ _. (array_vec_len tokens.new ≤ 64) × (cut_all text.now ≡ Ok tokens.new.items)) (λ e. cut_all text.now ≡ Err e) }
+// Cuts a text into its tokens, and answers their number.
+pub(crate) fn cut(text: &[u8], tokens: &mut [Token]) -> Result<usize, TokenFault>
+    requires { length tokens.old ≡ 64 }
+    ensures { MatchResult result (λ n. (n ≤ 64) × (cut_all text.now ≡ Ok (take n tokens.new))) (λ e. cut_all text.now ≡ Err e) }
 {
     let mut lexer = Lexer::new(text);
-    while !tokens.is_full() {
+    for i in 0..MOST_TOKENS {
         let Some(token) = lexer.peek()? else {
-            return Ok(());
+            return Ok(i);
         };
-        tokens.push(token);
+        tokens[i] = token;
         lexer.skip();
     }
     match lexer.peek() {
-        Ok(None) => Ok(()),
+        Ok(None) => Ok(MOST_TOKENS),
         Ok(Some(Token { place, .. })) => Err(TokenFault {
             refusal: Refusal::TooManyTokens,
             place,

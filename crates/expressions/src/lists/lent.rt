@@ -5,7 +5,6 @@ ghost use Rattle.expressions.specs.Verdict.{Verdict, Said, SameRoom, pending_roo
 use super::Lists;
 use crate::cut::cut;
 use crate::{Expect, MOST_TOKENS, Pending, Reader, Reading};
-use arrayvec::ArrayVec;
 use stacks::Stack;
 use tokens::Token;
 use tokens::faults::TokenFault;
@@ -26,11 +25,9 @@ impl<'a> Lists<'a> {
         ensures room { SameRoom self.old self.new }
         ensures said { Said result text.now }
     {
-        // Cheaper than `ArrayVec::new`, which makes each blank by itself.
-        let mut tokens = ArrayVec::from_array_in((), [Token::default(); MOST_TOKENS]);
-        tokens.clear();
-        cut(text, &mut tokens)?;
-        self.read_tokens(&tokens, text.len())
+        let mut tokens = [Token::default(); MOST_TOKENS];
+        let count = cut(text, &mut tokens)?;
+        self.read_tokens(&tokens[..count], text.len())
     }
 
     // Reads the tokens of a text that ends at the place `end`.

@@ -1,16 +1,21 @@
 -- The tables of counts, and what a table line does to them.
-use Rattle.std.specs.Prelude.{ℕ, cond, List, [], ◌++◌, map, drop, Ok, Err, Result, slice_index, slice_index_or, slice_set}
+use Rattle.std.specs.Prelude.{ℕ, ◌≤◌, cond, List, [], ◌++◌, map, length, drop, Ok, Err, Result, slice_index, slice_index_or, slice_set}
 use Rattle.refusals.specs.declared.Refusal.TheVariants.{Counts}
 use Rattle.lines.specs.declared.kind.Kind.TheVariants as kind
 use Rattle.schemes.specs.declared.fault.Fault.{Fault}
 use Rattle.schemes.specs.declared.fault.Fault.TheVariants.{At}
 use Rattle.arrayvec.specs.ArrayVec.{ArrayVec}
 use Rattle.lives.specs.Tables.{fairly}
+use Rattle.schemes.specs.Most.{year_count}
 use Rattle.schemes.specs.Syntax.{given, by_read}
 
 -- the counts of all tables
 abbrev pub lists : List (ArrayVec ℕ) → List (List ℕ)
 lists ts = map (λ t. t.items) ts
+
+-- no table holds more counts than a life has
+abbrev pub Sound : List (ArrayVec ℕ) → Type 0
+Sound ts = (i : ℕ) → length (slice_index_or (lists ts) i []) ≤ year_count
 
 -- a table with counts put in, if they make a life
 abbrev pub put : ℕ → List ℕ → List (List ℕ) → Result (List (List ℕ)) Fault

@@ -14,7 +14,7 @@ pub enum Basis {
 
 impl Basis {
     // The code of its letter, as the numbers of a line have it.
-    pub(crate) fn code(self) -> u32
+    pub fn code(self) -> u32
         ensures { result ≡ code_of self }
     {
         match self {

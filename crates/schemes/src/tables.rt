@@ -1,10 +1,10 @@
 // The tables that lives are read from.
-ghost use Rattle.std.specs.Prelude.{◌≡◌, true, false, [], ◌++◌, length, replicate, MatchResult, slice_index_or};
+ghost use Rattle.std.specs.Prelude.{◌≡◌, ◌≤◌, true, false, [], ◌++◌, length, replicate, MatchResult, slice_index_or};
 ghost use Rattle.refusals.specs.declared.Refusal.TheVariants.{Counts};
 ghost use Rattle.lives.specs.Tables.{fairly};
 ghost use Rattle.schemes.specs.Enrolment.{Leaves};
-ghost use Rattle.schemes.specs.Most.{table_count};
-ghost use Rattle.schemes.specs.Counts.{lists, appended};
+ghost use Rattle.schemes.specs.Most.{table_count, year_count};
+ghost use Rattle.schemes.specs.Counts.{Sound, lists, appended};
 
 use crate::fault::Fault;
 use crate::reading::numbers;
@@ -28,6 +28,7 @@ type Table = ArrayVec<u32, YEARS>;
 pub struct Tables {
     tables: [Table; TABLES],
     ghost whole: { length tables ≡ table_count },
+    ghost sound: { Sound tables },
 }
 
 // Appends counts to a table, unless the table would make no life.
@@ -56,7 +57,8 @@ impl Tables {
 
     // The counts of a table, and none past the last table.
     pub(crate) fn at(&self, i: usize) -> &[u32]
-        ensures { result.now ≡ slice_index_or (lists self.now.tables) i [] }
+        ensures list { result.now ≡ slice_index_or (lists self.now.tables) i [] }
+        ensures short { length result.now ≤ year_count }
     {
         self.tables.get(i).map_or(&[], |table| table.as_slice())
     }

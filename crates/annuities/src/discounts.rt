@@ -26,7 +26,8 @@ impl DiscountFactor {
 
     // The discount of one year more, cut.
     pub(crate) fn next(self, rate: Rate) -> DiscountFactor
-        ensures { result.worth ≡ self.worth * 10000 / (10000 + rate.hundredths) }
+        ensures value { result.worth ≡ self.worth * 10000 / (10000 + rate.hundredths) }
+        ensures bound { result.worth ≤ self.worth }
     {
         let worth = self.worth * 10_000 / (10_000 + u64::from(rate.hundredths));
         DiscountFactor { worth }

@@ -1,5 +1,5 @@
 -- The seats as supposed are as sound as the seats.
-use Rattle.std.proofs.Common.{◌≡◌, ℕ, ◌+◌, ◌<◌, ◌≤◌, Bool, false, cond, List, length, get_or, set, Some, None, Option, sym, refl, ap, ◌∙◌, subst, ap₂, ⊎_elim, arith}
+use Rattle.std.proofs.Common.{◌≡◌, ℕ, ◌+◌, ◌<◌, ◌≤◌, Bool, false, cond, List, length, get_or, set, Some, None, Option, IsNone, sym, refl, ap, ◌∙◌, subst, ap₂, ⊎_elim, arith}
 use Rattle.std.proofs.lemmas.Bool.{cases_lt, cases_eq, eq-eqb, ne_eqb}
 use Rattle.std.proofs.lemmas.List.{get_or-set_same, get_or-set_other, set_past}
 use Rattle.patterns.specs.Seats.{seats}
@@ -9,10 +9,10 @@ use Rattle.seats.specs.declared.seat.Mark.{Mark}
 use Rattle.seats.specs.declared.seat.Seat.{Seat}
 use Rattle.seats.specs.Seats.{failed, is_empty, seat_at, present, Columns, Within}
 use Rattle.cases.specs.declared.inforce.InForce.{InForce}
-use Rattle.cases.specs.Book.{as_supposed, seen_mark}
+use Rattle.cases.specs.Book.{running, as_supposed, seen_mark}
 use Rattle.cases.specs.declared.inforce.view.View.{View}
 use Rattle.cases.specs.Weighing.{exposure_by, exposure_for, vacant_at}
-use Rattle.cases.specs.Views.{book_of}
+use Rattle.cases.specs.Views.{in_force_book, shown_book, book_of}
 use Rattle.cases.proofs.Sounds.{failed_columns, failed-within}
 
 supposed_columns : (o : Option ℕ) (xs : List Seat) → Columns xs → Columns (as_supposed o xs)
@@ -71,3 +71,11 @@ shown_columns c = supposed_columns c.supposed c.table.seats c.columns
 
 pub shown_within : (c : InForce) → Within (present c.elapsed) (as_supposed c.supposed c.table.seats)
 shown_within c = supposed_within c.elapsed c.supposed c.table.seats c.within
+
+-- where none stands, the case as supposed is the case itself
+pub shown_plain : (c : InForce) → IsNone c.supposed → shown_book c ≡ in_force_book c
+shown_plain c h = ap (λ (xs : List Seat). running xs c.elapsed) (go c.supposed c.table.seats h)
+  where
+    go : (o : Option ℕ) (xs : List Seat) → IsNone o → as_supposed o xs ≡ xs
+    go None xs h = refl
+    go (Some i) xs h = absurd cc

@@ -13,7 +13,7 @@ returns c =
     let x = c.args.benefit.now in
     let t = c.args.year in
     let i = c.args.rate in
-    let e = c.as_supposed-view.ensures in
+    let e = c.as_supposed-view.ensures.book in
     let a : Account = record { patterns = c.work.result; subsets = c.work-2.result; counts = c.work-3.result } in
     let r : Answered b x t i a = record { by_patterns = (rw e at c.work.ensures.worked); by_subsets = (rw e at c.work-2.ensures.worked); by_counts = (rw e at c.work-3.ensures.worked) } in
     record {

@@ -15,14 +15,14 @@ through seen held o t n e p q r = ap shown_book e ∙ (λ i. running (as_suppose
 pub returns-in_err-valuation : goal.returns-in_err-valuation
 returns-in_err-valuation c =
     let s = c.suppose-guard.ensures in
-    let b = c.as_supposed-view.ensures ∙ through _ _ _ _ _ c.case.ensures s.supposed s.table s.elapsed in
+    let b = c.as_supposed-view.ensures.book ∙ through _ _ _ _ _ c.case.ensures s.supposed s.table s.elapsed in
     let v = c.value.ensures ∙ ap (λ (k : Book). valued k c.args.benefit.now c.args.rate c.args.route) b in
     record { same = search (rules, same_case); value = search rules }
 
 pub returns : goal.returns
 returns c =
     let s = c.suppose-guard.ensures in
-    let b = c.as_supposed-view.ensures ∙ through _ _ _ _ _ c.case.ensures s.supposed s.table s.elapsed in
+    let b = c.as_supposed-view.ensures.book ∙ through _ _ _ _ _ c.case.ensures s.supposed s.table s.elapsed in
     record {
       same = search (rules, same_case);
       value = sym c.in_ok-valuation.was ∙ c.value.ensures ∙ ap (λ (k : Book). valued k c.args.benefit.now c.args.rate c.args.route) b;

@@ -8,4 +8,4 @@ loop-year-init c = c.now-discount.ensures ∙ discount-first c.args.rate.hundred
 
 pub loop-year-preserved : goal.loop-year-preserved
 loop-year-preserved c =
-    c.next-discount.ensures ∙ ap (λ (v : ℕ). v * 10000 / (10000 + c.args.rate.hundredths)) c.loop-year.invariant ∙ sym (discount_next c.args.rate.hundredths c.loop-year._year)
+    c.next-discount.ensures.value ∙ ap (λ (v : ℕ). v * 10000 / (10000 + c.args.rate.hundredths)) c.loop-year.invariant ∙ sym (discount_next c.args.rate.hundredths c.loop-year._year)

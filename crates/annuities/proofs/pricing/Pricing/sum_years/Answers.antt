@@ -61,5 +61,5 @@ loop-year-preserved c =
     record {
       summed = ap₂ ◌+◌ c.loop-year.invariant.summed y ∙ sym (below_next ◌+◌ 0 (yearly_of b x i) t);
       bound = omega (arith, c.loop-year.invariant.bound, c.yearly-factor.ensures.bound);
-      worth = c.next-discount.ensures ∙ ap (λ (v : ℕ). v * 10000 / (10000 + i)) c.loop-year.invariant.worth ∙ sym (discount_next i t);
+      worth = c.next-discount.ensures.value ∙ ap (λ (v : ℕ). v * 10000 / (10000 + i)) c.loop-year.invariant.worth ∙ sym (discount_next i t);
     }

@@ -17,6 +17,6 @@ returns c =
     let me = c.args.self.now in
     let b = shown_book me in
     let x = c.args.benefit.now in
-    let tested = rw c.as_supposed-view.ensures at c.in_ok-test.ensures in
-    let e = c.symmetric_sum.ensures ∙ ap (λ (xs : List Exposure). S xs c.args.members) (c.exposures.ensures ∙ ap (λ (k : Book). kept (flags seats x.named) (exposures_for k c.args.year)) c.as_supposed-view.ensures) ∙ symmetric_is b (shown_columns me) (shown_within me) x c.args.year c.args.members in
+    let tested = rw c.as_supposed-view.ensures.book at c.in_ok-test.ensures in
+    let e = c.symmetric_sum.ensures ∙ ap (λ (xs : List Exposure). S xs c.args.members) (c.exposures.ensures ∙ ap (λ (k : Book). kept (flags seats x.named) (exposures_for k c.args.year)) c.as_supposed-view.ensures.book) ∙ symmetric_is b (shown_columns me) (shown_within me) x c.args.year c.args.members in
     record { value = search rules; past = λ h. e ∙ symmetric-none b (shown_columns me) (shown_within me) x c.args.year c.args.members h }

@@ -15,7 +15,7 @@ pub record State : Type 0 where
 
 -- what a session holds
 abbrev pub state_of : Session → State
-state_of s = record { book = book_of s.phase; tables = lists s.tables.tables; rate = s.rate }
+state_of s = record { book = book_of s.case; tables = lists s.tables.tables; rate = s.rate }
 
 -- a session before its first line
 abbrev pub beginning : State

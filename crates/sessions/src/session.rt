@@ -8,9 +8,16 @@ use schemes::tables::Tables;
 mod calls;
 mod machine;
 
-// The phase of the file, with the case that its lines speak of.
-#[derive(Drop)]
+// The phase of a file.
+#[derive(Clone, Copy)]
 pub enum Phase {
+    Enrolling,
+    InForce,
+}
+
+// The case that the lines speak of, in its phase.
+#[derive(Drop)]
+pub enum Case {
     Enrolling(Enrolling),
     InForce(InForce),
 }
@@ -18,8 +25,8 @@ pub enum Phase {
 // No line supposes anything.
 #[derive(Drop)]
 pub struct Session {
-    phase: Phase,
+    case: Case,
     tables: Tables,
     rate: u32,
-    ghost plain: { Plain phase },
+    ghost plain: { Plain case },
 }

@@ -1,10 +1,11 @@
 // What a session does at a line.
 ghost use Rattle.std.specs.Prelude.{◌≡◌};
+ghost use Rattle.sessions.specs.Phases.{phase_of};
 ghost use Rattle.sessions.specs.State.{beginning, state_of};
 ghost use Rattle.sessions.specs.Machine.{Acts, Lined, done_by, Kept};
 
 use super::calls::{fail, price, withdraw, year_end};
-use super::{Phase, Session};
+use super::{Case, Phase, Session};
 use annuities::valuation::Valuation;
 use cases::enrolling::Enrolling;
 use lines::kind::Kind;
@@ -21,9 +22,19 @@ impl Session {
         ensures { state_of result ≡ beginning }
     {
         Session {
-            phase: Phase::Enrolling(Enrolling::open()),
+            case: Case::Enrolling(Enrolling::open()),
             tables: Tables::new(),
             rate: 0,
+        }
+    }
+
+    // The phase that the next line is read in.
+    pub fn phase(&self) -> Phase
+        ensures { phase_of result ≡ (state_of self.now).book.phase }
+    {
+        match self.case {
+            Case::Enrolling(_) => Phase::Enrolling,
+            Case::InForce(_) => Phase::InForce,
         }
     }
 
@@ -32,22 +43,25 @@ impl Session {
         ensures acts { Acts kind rest.now (state_of self.old) (done_by result (state_of self.new)) }
         ensures kept { Kept result (state_of self.new) (state_of self.old) }
     {
-        match (&mut self.phase, kind) {
+        match (&mut self.case, kind) {
             (_, Kind::Rate) => self.rate = only_number(kind, rest)?,
-            (Phase::Enrolling(_), Kind::Table) => self.tables.extend(rest)?,
-            (Phase::Enrolling(case), Kind::Life) => enrol(case, &self.tables, rest)?,
-            (Phase::Enrolling(case), Kind::Withdraw) => withdraw(case, rest)?,
-            (Phase::Enrolling(case), Kind::Start) => {
+            (Case::Enrolling(_), Kind::Table) => self.tables.extend(rest)?,
+            (Case::Enrolling(case), Kind::Life) => enrol(case, &self.tables, rest)?,
+            (Case::Enrolling(case), Kind::Withdraw) => withdraw(case, rest)?,
+            (Case::Enrolling(case), Kind::Start) => {
                 no_number(kind, rest)?;
                 let case = mem::replace(case, Enrolling::open());
-                self.phase = Phase::InForce(case.start());
+                self.case = Case::InForce(case.start());
             }
-            (Phase::InForce(case), Kind::Fail) => fail(case, rest)?,
-            (Phase::InForce(case), Kind::YearEnd) => year_end(case, rest)?,
-            (Phase::InForce(case), Kind::Benefit) => return price(case, rest, self.rate).map(Some),
-            (Phase::InForce(_), Kind::Close) => {
+            (Case::InForce(case), Kind::Fail) => fail(case, rest)?,
+            (Case::InForce(case), Kind::YearEnd) => year_end(case, rest)?,
+            (Case::InForce(case), Kind::Benefit) => return price(case, rest, self.rate).map(Some),
+            (Case::InForce(_), Kind::Close) => {
                 no_number(kind, rest)?;
-                self.phase = Phase::Enrolling(Enrolling::open());
+                let next = Case::Enrolling(Enrolling::open());
+                if let Case::InForce(case) = mem::replace(&mut self.case, next) {
+                    let _ = case.close();
+                }
             }
             _ => return Err(Refusal::Phase.into()),
         }

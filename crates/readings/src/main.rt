@@ -3,11 +3,11 @@
 
 use expressions::{MOST_TOKENS, Pending, ReadFault, Reading, read};
 use std::io;
-use std::io::{BufRead, Read};
+use std::io::Read;
 use tokens::faults::TokenFault;
 
 // The bytes of the input that are read, at most.
-const INPUT: u64 = 65_536;
+const INPUT: usize = 65_536;
 
 // Prints what one expression says.
 fn show(rt: &HostRuntime, text: &[u8]) -> io::Result<()> {
@@ -23,8 +23,11 @@ fn show(rt: &HostRuntime, text: &[u8]) -> io::Result<()> {
 }
 
 fn main(rt: HostRuntime) -> io::Result<()> {
-    for line in rt.stdin().lock().take(INPUT).split(rt.alloc(), b'\n') {
-        show(&rt, line?.as_slice())?;
+    // All of it comes before the first answer, so that a caller may write it whole before it reads one.
+    let mut input = [0; INPUT];
+    let len = io::copy(&mut rt.stdin().take(INPUT as u64), &mut &mut input[..])? as usize;
+    for line in input[..len.min(INPUT)].split_inclusive(|b| *b == b'\n') {
+        show(&rt, line.strip_suffix(b"\n").unwrap_or(line))?;
     }
     Ok(())
 }

@@ -9,7 +9,7 @@ use std::io;
 use std::io::{Read, Write};
 
 // One byte more than a file may have, so that a longer one is seen to be longer.
-const INPUT: u64 = LONGEST as u64 + 1;
+const INPUT: usize = LONGEST + 1;
 
 const OUTPUT: usize = 65_536;
 
@@ -32,10 +32,11 @@ fn explain(rt: &HostRuntime, at: LineFault) -> io::Result<()> {
 
 // Runs the file. A refusal that is printed is no error; output that is not complete is.
 fn value(rt: &HostRuntime) -> anyhow::Result<()> {
-    let mut file = Vec::new(rt.alloc());
-    rt.stdin().take(INPUT).read_to_end(&mut file)?;
+    // Filled before anything is written, and without memory from outside.
+    let mut file = [0; INPUT];
     let mut out = [0; OUTPUT];
-    let outcome = run(file.as_slice(), &mut out);
+    let len = io::copy(&mut rt.stdin().take(INPUT as u64), &mut &mut file[..])? as usize;
+    let outcome = run(&file[..len.min(INPUT)], &mut out);
     rt.stdout().write_all(&out[..outcome.len])?;
     match outcome.ending {
         Ok(()) => Ok(()),
